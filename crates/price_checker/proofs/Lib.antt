@@ -1,4 +1,5 @@
 pub mod SumsOfPrices
+pub mod NamesInOrder
 pub mod LastPlaces
 pub mod NamesInSlots
 pub mod LinksAreFound

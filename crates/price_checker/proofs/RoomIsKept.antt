@@ -1,9 +1,8 @@
 -- Counts of the links over places.
-use Rattle.std.proofs.Common.{◌≡◌, ℕ, zero, suc, ◌+◌, ◌-◌, ◌<◌, ◌≤◌, Bool, true, false, ◌&&◌, cond, List, [], ◌∷◌, length, get_or, replicate, slice_index, refl, inl, inr, arith}
-use Rattle.std.specs.Prelude.{EachIndex}
+use Rattle.std.proofs.Common.{◌≡◌, ℕ, zero, suc, ◌+◌, ◌-◌, ◌<◌, ◌≤◌, Bool, true, false, ◌&&◌, cond, eqb, List, [], ◌∷◌, length, get_or, replicate, refl, subst, inl, inr, arith}
 use Rattle.std.proofs.lemmas.Bool.{cases_lt}
-use Rattle.known_state.specs.Plans.{Link, is_inside, kept_over}
-use Rattle.known_state.proofs.LinkPlaces.{over_none}
+use Rattle.known_state.specs.Plans.{Link, total, is_inside, kept_over, kept_from, kept_to}
+use Rattle.known_state.proofs.LinkPlaces.{over_next, over_none}
 use Rattle.price_checker.specs.Links.{AreWithin}
 
 -- a list of zeros has 0 at each index, and past its end
@@ -12,22 +11,40 @@ zero_at zero index = refl
 zero_at (suc n) zero = refl
 zero_at (suc n) (suc index) = zero_at n index
 
--- a place is inside no more links than there are
-pub kept_over_few : (ls : List Link) (place : ℕ) → kept_over ls place ≤ length ls
-kept_over_few [] place = omega arith
-kept_over_few (l ∷ ls) place = by (l.kept && is_inside place l) (kept_over_few ls place)
+-- no more links pass a test than there are
+few : (test : Link → Bool) (ls : List Link) → total (λ l. cond (test l) 1 0) ls ≤ length ls
+few test [] = omega arith
+few test (l ∷ ls) = by (test l) (few test ls)
   where
-    by : (b : Bool) → kept_over ls place ≤ length ls → cond b 1 0 + kept_over ls place ≤ length (l ∷ ls)
-    by true few = omega arith
-    by false few = omega arith
+    by : (b : Bool) → total (λ l. cond (test l) 1 0) ls ≤ length ls → cond b 1 0 + total (λ l. cond (test l) 1 0) ls ≤ length (l ∷ ls)
+    by true rest = omega arith
+    by false rest = omega arith
 
--- if the counts at all places are less than the number of slots, so is each count
-pub room_kept : (slots : ℕ) (counts : List ℕ) (ls : List Link) → 1 ≤ slots → length counts ≡ 4096 → AreWithin 4096 ls → ((place : ℕ) → slice_index counts place ≡ kept_over ls place) → EachIndex counts (λ index. slice_index counts index < slots) → (place : ℕ) → kept_over ls place ≤ slots - 1
-room_kept slots counts ls some long within counted below place = elim (cases_lt place 4096) [
-  | inl before ↦ omega (arith, below place (omega arith), counted place)
+pub few_over : (ls : List Link) (place : ℕ) → kept_over ls place ≤ length ls
+few_over ls place = few (λ l. l.kept && is_inside place l) ls
+
+pub few_from : (ls : List Link) (place : ℕ) → kept_from ls place ≤ length ls
+few_from ls place = few (λ l. l.kept && eqb l.from place) ls
+
+pub few_to : (ls : List Link) (place : ℕ) → kept_to ls place ≤ length ls
+few_to ls place = few (λ l. l.kept && eqb l.to place) ls
+
+-- how many links are over a place, given how many are over the place before
+pub over_here : (ls : List Link) (place : ℕ) → AreWithin 4096 ls → 1 ≤ place → kept_over ls place + kept_to ls place ≡ kept_over ls (place - 1) + kept_from ls (place - 1)
+over_here ls place within some =
+    let next : place - 1 + 1 ≡ place = omega arith in
+    subst (λ (n : ℕ). kept_over ls n + kept_to ls n ≡ kept_over ls (place - 1) + kept_from ls (place - 1)) next (over_next 4096 (place - 1) ls within)
+
+-- there is room at all places if there is at those of requests
+pub room_everywhere : (slots : ℕ) (ls : List Link) → AreWithin 4096 ls → ((place : ℕ) → place < 4096 → kept_over ls place ≤ slots - 1) → (place : ℕ) → kept_over ls place ≤ slots - 1
+room_everywhere slots ls within room place = elim (cases_lt place 4096) [
+  | inl before ↦ room place before
   | inr beyond ↦ omega (arith, over_none 4096 place ls within beyond)
 ]
 
--- and conversely
-pub room_below : (slots : ℕ) (counts : List ℕ) (ls : List Link) → 1 ≤ slots → ((place : ℕ) → slice_index counts place ≡ kept_over ls place) → ((place : ℕ) → kept_over ls place ≤ slots - 1) → EachIndex counts (λ index. slice_index counts index < slots)
-room_below slots counts ls some counted room = λ index before. omega (arith, room index, counted index)
+-- and at one place more
+pub room_more : (slots place over : ℕ) (ls : List Link) → over ≡ kept_over ls place → over < slots → ((p : ℕ) → p < place → kept_over ls p ≤ slots - 1) → (p : ℕ) → p < place + 1 → kept_over ls p ≤ slots - 1
+room_more slots place over ls is below room p lt = elim (cases_lt p place) [
+  | inl before ↦ room p before
+  | inr from ↦ let here : place ≡ p = omega arith in subst (λ (q : ℕ). kept_over ls q ≤ slots - 1) here (omega arith)
+]

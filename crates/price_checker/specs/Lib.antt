@@ -3,3 +3,5 @@ pub mod NamedUpdates
 pub mod Links
 pub mod Verdicts
 pub mod Readings
+pub mod LastPlaces
+pub mod Sums

@@ -1,5 +1,5 @@
 -- The number of updates with a name.
-use Rattle.std.specs.Prelude.{ℕ, ◌+◌, List, is_some, if◌then◌else◌}
+use Rattle.std.specs.Prelude.{ℕ, List, is_some, if◌then◌else◌}
 use Rattle.table_types.specs.declared.update.Update.{Update}
 use Rattle.known_state.specs.Plans.{total}
 

@@ -1,33 +1,25 @@
 //! The most that links can save.
 
-ghost use Rattle.std.specs.Prelude.{◌≡◌, ◌<◌, ◌≤◌, ◌-◌, ◌^◌, length};
+ghost use Rattle.std.specs.Prelude.{◌≡◌, ◌<◌, ◌≤◌, ◌^◌, length};
 ghost use Rattle.std.specs.List.{AllByRecursion};
 ghost use Rattle.table_types.specs.SlotIds.{slot_count};
-ghost use Rattle.known_state.specs.Plans.{sum_of, price_inside, kept_savings, bound};
+ghost use Rattle.known_state.specs.Plans.{sum_of, kept_savings, bound};
 ghost use Rattle.price_checker.specs.Links.{AreWithin};
+ghost use Rattle.price_checker.specs.Sums.{AreSums};
 
-use crate::links::RequestLink;
+use crate::links::{MOST_REQUESTS, RequestLink};
 
-fn sum_of(numbers: &[u64]) -> u64
-    requires { sum_of numbers.now < 2 ^ 64 }
-    ensures { result ≡ sum_of numbers.now }
-{
-    let mut sum = 0;
-    for number in numbers {
-        sum += *number;
-    }
-    sum
-}
-
-/// Returns what a link saves above the prices inside it.
-fn saved_above(link: &RequestLink, prices: &[u64]) -> u64
-    requires within { (link.now.from < link.now.to) × (link.now.to ≤ length prices.now) }
+/// Returns the sums of the first `prices`, at each index of as many.
+fn sums_of(prices: &[u64]) -> [u64; MOST_REQUESTS + 1]
+    requires most { length prices.now ≤ 4096 }
     requires small { sum_of prices.now < 2 ^ 64 }
-    ensures saved { result ≡ link.now.saving - price_inside prices.now link.now }
-    ensures word { result < 2 ^ 32 }
+    ensures { AreSums prices.now result }
 {
-    let saving = u64::from(link.saving);
-    saving.saturating_sub(sum_of(&prices[link.from..link.to - 1]))
+    let mut sums = [0; MOST_REQUESTS + 1];
+    for (index, price) in prices.iter().enumerate() {
+        sums[index + 1] = sums[index] + *price;
+    }
+    sums
 }
 
 /// Returns the most that the links can save with `slots` slots, 1 to 128, as `prices` prove: at most 4,096 prices, each
@@ -38,11 +30,13 @@ pub fn bound(slots: usize, links: &[RequestLink], prices: &[u64]) -> u64
     requires links { (length links.now ≤ 4096) × AreWithin (length prices.now) links.now }
     ensures { result ≡ bound slots links.now prices.now }
 {
+    let sums = sums_of(prices);
     let mut above = 0;
     for link in links {
-        above += saved_above(link, prices);
+        let inside = sums[usize::from(link.to) - 1] - sums[usize::from(link.from)];
+        above += u64::from(link.saving).saturating_sub(inside);
     }
-    (slots as u64 - 1) * sum_of(prices) + above
+    (slots as u64 - 1) * sums[prices.len()] + above
 }
 
 /// Returns what the kept links save. There are at most 4,096 links.

@@ -5,6 +5,7 @@
 
 mod bound;
 mod comparison;
+mod last_places;
 mod laws;
 mod links;
 mod names_held;

@@ -12,8 +12,8 @@ pub const MOST_REQUESTS: usize = Batch::MOST;
 /// is requested again; what reading the name saves, in bytes; and whether the plan keeps that request.
 #[derive(Clone, Copy, Debug)]
 pub struct RequestLink {
-    pub from: usize,
-    pub to: usize,
+    pub from: u16,
+    pub to: u16,
     pub saving: u32,
     pub kept: bool,
 }

@@ -1,52 +1,56 @@
 //! Whether the slots suffice for all kept links.
 
-ghost use Rattle.std.specs.Prelude.{◌≡◌, ℕ, ◌+◌, ◌-◌, ◌<◌, ◌≤◌, ◌↔◌, IsTrue, length, slice_index, EachIndex, if◌then◌else◌};
-ghost use Rattle.known_state.specs.Plans.{is_inside, kept_over};
+ghost use Rattle.std.specs.Prelude.{◌≡◌, ℕ, ◌+◌, ◌-◌, ◌^◌, ◌<◌, ◌≤◌, ◌↔◌, ◌==◌, IsTrue, length, slice_index, if◌then◌else◌};
+ghost use Rattle.known_state.specs.Plans.{kept_over, kept_from, kept_to};
 ghost use Rattle.price_checker.specs.Links.{AreWithin};
 
 use crate::links::{MOST_REQUESTS, RequestLink};
 
-/// Adds one at each place inside a link.
-fn add_inside(link: &RequestLink, over: &mut [usize; MOST_REQUESTS])
-    requires within { (link.now.from < link.now.to) × (link.now.to ≤ 4096) }
-    requires small { (place : ℕ) → slice_index over.old place ≤ 4096 }
-    ensures { (place : ℕ) → slice_index over.new place ≡ slice_index over.old place + (if is_inside place link.now then 1 else 0) }
+/// A number for each place.
+type Counts = [usize; MOST_REQUESTS + 1];
+
+/// Adds one at a place.
+fn count(counts: &mut Counts, place: u16)
+    requires place { place ≤ 4096 }
+    requires small { (other : ℕ) → slice_index counts.old other < 2 ^ 32 }
+    ensures counted { (other : ℕ) → slice_index counts.new other ≡ slice_index counts.old other + (if place == other then 1 else 0) }
 {
-    for place in link.from + 1..link.to {
-        over[place] += 1;
-    }
+    counts[usize::from(place)] += 1;
 }
 
-/// Returns for each place how many kept links it is inside. There are at most 4,096 links, each to a place up to 4,096.
-fn kept_over(links: &[RequestLink]) -> [usize; MOST_REQUESTS]
+/// Returns for each place how many kept links begin at it, and how many end at it. There are at most 4,096 links, each
+/// to a place up to 4,096.
+fn kept_ends(links: &[RequestLink]) -> (Counts, Counts)
     requires most { length links.now ≤ 4096 }
     requires within { AreWithin 4096 links.now }
-    ensures counted { (place : ℕ) → slice_index result place ≡ kept_over links.now place }
-    ensures long { length result ≡ 4096 }
+    ensures begin { (place : ℕ) → slice_index result.0 place ≡ kept_from links.now place }
+    ensures end { (place : ℕ) → slice_index result.1 place ≡ kept_to links.now place }
 {
-    let mut over = [0; MOST_REQUESTS];
+    let (mut begin, mut end) = ([0; MOST_REQUESTS + 1], [0; MOST_REQUESTS + 1]);
     for link in links {
         if link.kept {
-            add_inside(link, &mut over);
+            count(&mut begin, link.from);
+            count(&mut end, link.to);
         }
     }
-    over
-}
-
-/// Returns whether all counts are below `limit`.
-fn are_below(limit: usize, counts: &[usize]) -> bool
-    ensures { IsTrue result ↔ EachIndex counts.now (λ index. slice_index counts.now index < limit) }
-{
-    counts.iter().all(|count| *count < limit)
+    (begin, end)
 }
 
 /// Returns whether no place is inside more kept links than there are slots less one. There are at most 4,096 links, each
-/// to a place up to 4,096.
+/// to a place up to 4,096. Goes through the links once, and then through the places.
 pub fn have_room(slots: usize, links: &[RequestLink]) -> bool
     requires slots { 1 ≤ slots }
     requires most { length links.now ≤ 4096 }
     requires within { AreWithin 4096 links.now }
     ensures { IsTrue result ↔ ((place : ℕ) → kept_over links.now place ≤ slots - 1) }
 {
-    are_below(slots, &kept_over(links))
+    let (begin, end) = kept_ends(links);
+    let mut over = 0;
+    for place in 1..MOST_REQUESTS {
+        over = over + begin[place - 1] - end[place];
+        if over >= slots {
+            return false;
+        }
+    }
+    true
 }

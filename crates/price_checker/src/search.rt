@@ -1,31 +1,30 @@
 //! Finding the links of requests.
 
 ghost use Rattle.std.specs.Prelude.{◌≡◌, ◌+◌, ◌≤◌, ◌<◌, ◌↔◌, IsTrue, ◌||◌, not, is_some, length, option_to_list};
-ghost use Rattle.known_state.specs.Plans.{at_start, after_requests, links, link_of, AreLinked};
+ghost use Rattle.std.specs.Option.{option_or};
+ghost use Rattle.known_state.specs.Plans.{at_start, links, link_of, AreLinked};
 ghost use Rattle.price_checker.specs.NamesHeld.{names_held};
 
+use crate::last_places::LastPlaces;
 use crate::links::{Links, RequestLink};
 use crate::names_held::Held;
 use known_state::Request;
-use table_types::{Name, is_same_name};
+use table_types::Name;
 
-/// Returns the place at which `name` was last requested: 0 if it wasn't but is held at the start, and `None` if it
-/// isn't held either.
-fn last_place(held: Held<'_>, before: &[Request], name: &Name) -> Option<usize>
-    ensures { result ≡ (after_requests (at_start (names_held held.entry)) before.now).last name.now }
+/// Returns the place at which `name` was last requested, given that of its last request, if there was one: 0 if there
+/// was none but the name is held at the start.
+fn or_start(requested: Option<u16>, held: Held<'_>, name: &Name) -> Option<u16>
+    ensures { result ≡ option_or requested ((at_start (names_held held.entry)).last name.now) }
 {
-    let mut place = before.len();
-    while place > 0 {
-        if is_same_name(before[place - 1].name().as_slice(), name.as_slice()) {
-            return Some(place);
-        }
-        place -= 1;
+    match requested {
+        Some(place) => Some(place),
+        None if held.has(name) => Some(0),
+        None => None,
     }
-    if held.has(name) { Some(0) } else { None }
 }
 
 /// Returns the link of the request at the place `to`, if its name was requested or held at a place `from`.
-fn link_of(from: Option<usize>, to: usize, request: &Request, kept: bool) -> Option<RequestLink>
+fn link_of(from: Option<u16>, to: u16, request: &Request, kept: bool) -> Option<RequestLink>
     ensures { option_to_list result ≡ link_of from to request.now kept }
 {
     let from = from?;
@@ -38,7 +37,7 @@ fn link_of(from: Option<usize>, to: usize, request: &Request, kept: bool) -> Opt
 }
 
 /// Returns whether a request has a link or isn't kept.
-fn is_linked(from: Option<usize>, kept: bool) -> bool
+fn is_linked(from: Option<u16>, kept: bool) -> bool
     ensures { result ≡ (is_some from || not kept) }
 {
     from.is_some() || !kept
@@ -53,11 +52,13 @@ pub fn find_links(held: Held<'_>, requests: &[Request], keep: &[bool]) -> (Links
     ensures linked { IsTrue result.1 ↔ AreLinked (at_start (names_held held.entry)) requests.now keep.now }
 {
     let mut links = Links::new();
+    let mut last_places = LastPlaces::new();
     let mut linked = true;
     for (index, request) in requests.iter().enumerate() {
-        let from = last_place(held, &requests[..index], request.name());
+        let (name, to) = (request.name(), index as u16 + 1);
+        let from = or_start(last_places.insert(name.as_slice(), to), held, name);
         linked &= is_linked(from, keep[index]);
-        if let Some(link) = link_of(from, index + 1, request, keep[index]) {
+        if let Some(link) = link_of(from, to, request, keep[index]) {
             links.push(link);
         }
     }

@@ -1,4 +1,4 @@
-use Rattle.std.proofs.Common.{◌≡◌, ℕ, true, List, length, take, rules, ap, ◌∙◌, arith}
+use Rattle.std.proofs.Common.{◌≡◌, true, List, length, take, rules, ap, ◌∙◌, arith}
 use Rattle.std.specs.Prelude.{replicate}
 use Rattle.known_state.specs.Plans.{Link, all_links, bound, links, names_in}
 use Rattle.price_checker.proofs.AllMarks.{all_marks}

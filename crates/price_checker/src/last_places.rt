@@ -1,0 +1,96 @@
+//! The place at which each name was last requested.
+
+ghost use Rattle.std.specs.Prelude.{◌≡◌, ◌<◌, ◌≤◌, ◌+◌, ◌-◌, [], List, ℕ, length, take, Some, IfOk, IfErr, if◌then◌else◌};
+ghost use Rattle.std.specs.List.{insert};
+ghost use Rattle.table_types.specs.Rosters.{is_same_name};
+ghost use Rattle.price_checker.specs.LastPlaces.{place_of, HasNameAt, IsGapFor};
+
+use crate::links::MOST_REQUESTS;
+use std::marker::Model;
+
+/// A name, and the place of its last request.
+#[derive(Clone, Copy, Debug)]
+pub struct LastPlace<'a> {
+    name: &'a [u8],
+    place: u16,
+}
+
+/// The names requested so far, in ascending order, each with the place of its last request. They are stored inline,
+/// without allocation.
+#[derive(Debug, Drop)]
+pub struct LastPlaces<'a> {
+    places: [LastPlace<'a>; MOST_REQUESTS],
+    count: usize,
+}
+
+impl<'a> Model for LastPlaces<'a> {
+    ghost use Rattle.std.specs.Prelude.{◌≡◌, ◌≤◌, List, length, take};
+    ghost use Rattle.price_checker.specs.declared.last_places.LastPlace.{LastPlace};
+    ghost use Rattle.price_checker.specs.LastPlaces.{NamesRise};
+
+    ghost Value = { List LastPlace };
+
+    ghost view = { λ a. take a.count a.places };
+
+    ghost invariant = { λ a. (length a.places ≡ 4096) × (a.count ≤ 4096) × NamesRise (take a.count a.places) };
+}
+
+/// Inserts `new` at `index`. The elements from there on move one further, and the last one is dropped.
+fn insert_at<'a>(places: &mut [LastPlace<'a>], index: usize, new: LastPlace<'a>)
+    requires { index < length places.old }
+    ensures { places.new ≡ insert (take (length places.old - 1) places.old) index new.entry }
+{
+    places[index..].rotate_right(1);
+    places[index] = new;
+}
+
+impl<'a> LastPlaces<'a> {
+    /// Returns the last places if there were no requests.
+    pub fn new() -> LastPlaces<'a>
+        ensures { result ≡ [] }
+    {
+        let none = LastPlace {
+            name: &[],
+            place: 0,
+        };
+        LastPlaces {
+            places: [none; MOST_REQUESTS],
+            count: 0,
+        }
+    }
+
+    /// Returns the index of `name`, or the index at which it would go.
+    fn find(&self, name: &[u8]) -> Result<usize, usize>
+        ensures found { IfOk result (HasNameAt self.now name.now) }
+        ensures absent { IfErr result (IsGapFor self.now name.now) }
+    {
+        self.places[..self.count].binary_search_by(|last| last.name.cmp(name))
+    }
+
+    /// Makes `place` the last place of `name`, and returns the one before, if there was one. There must be fewer than
+    /// 4,096 names.
+    pub fn insert(&mut self, name: &'a [u8], place: u16) -> Option<u16>
+        requires { length self.old < 4096 }
+        ensures before { result ≡ place_of self.old name.now }
+        ensures after { (other : List ℕ) →
+            place_of self.new other ≡ (if is_same_name name.now other then Some place else place_of self.old other) }
+        ensures count { length self.new ≤ length self.old + 1 }
+    {
+        match self.find(name) {
+            Ok(index) => {
+                let before = self.places[index].place;
+                self.places[index].place = place;
+                Some(before)
+            }
+            Err(index) => {
+                insert_at(
+                    &mut self.places[..self.count + 1],
+                    index,
+                    LastPlace { name, place },
+                );
+                self.count += 1;
+                None
+            }
+        }
+    }
+}
