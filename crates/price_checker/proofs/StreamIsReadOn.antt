@@ -1,5 +1,5 @@
 -- A stream that is read message by message.
-use Rattle.std.proofs.Common.{◌≡◌, ℕ, ◌+◌, ◌-◌, ◌≤◌, List, [], ◌∷◌, ◌++◌, length, take, drop, Ok, Some, refl, sym, ap, subst, ◌∙◌, arith, append_assoc, length-append}
+use Rattle.std.proofs.Common.{◌≡◌, ℕ, ◌+◌, ◌-◌, ◌≤◌, List, [], ◌∷◌, ◌++◌, length, take, drop, Option, Some, Result, Ok, refl, sym, ap, subst, ◌∙◌, arith, append_assoc, length-append}
 use Rattle.std.specs.List.{AllByRecursion}
 use Rattle.std.proofs.lemmas.List.{append-nil, drop-drop, length-drop, take_all}
 use Rattle.std.proofs.lemmas.Grind.{flat_map-append}
@@ -7,6 +7,10 @@ use Rattle.peers_encint.specs.Integers.{IsBytes}
 use Rattle.table_types.specs.declared.update.Update.{Update}
 use Rattle.table_types.specs.Tables.{Definition}
 use Rattle.peers_msg.specs.declared.message.Message.{Message}
+use Rattle.peers_msg.specs.declared.borrowed.message_ref.MessageRef.{MessageRef}
+use Rattle.peers_msg.specs.declared.fault.Breach.{Breach}
+use Rattle.peers_msg.specs.BorrowedMessages.{owned_message}
+use Rattle.peers_msg.specs.Decoding.{IsFrontOf}
 use Rattle.peers_msg.specs.Received.{Received}
 use Rattle.peers_msg.specs.Reading.{message_at}
 use Rattle.peers_msg.specs.Spelling.{spelled, stream_of}
@@ -16,6 +20,7 @@ use Rattle.known_state.specs.State.{State, Step, Teaches, IsOwn, Legal}
 use Rattle.known_state.specs.Known.{KnownState}
 use Rattle.price_checker.specs.declared.comparison.Comparison.{Comparison}
 use Rattle.price_checker.specs.declared.reading.Next.TheVariants as nexts
+use Rattle.price_checker.specs.Verdicts.{BeginsWithMessage}
 use Rattle.price_checker.specs.Readings.{Compares, IsNext}
 
 -- a legal list extended by a legal message
@@ -75,3 +80,9 @@ read-more k before after us stream place used comparison compared good (ms, carr
     let more = stream-more before.state.received ms m stream place used good split at front most in
     let is_own : IsOwn k.roster m = subst (λ (roster : List Definition). IsOwn roster m) same own in
     (ms ++ m ∷ [], carried ++ one, more.0, more.1, more.2, legal-more k.roster k.state before.state after.state ms m carried one legal is_own step, stays ∙ same, goes carried one after.state compares step)
+
+-- if a message is found at the front of a stream, the stream begins with it
+pub front_begins : (k : KnownState) (stream : List ℕ) (received : Received) (found : Result (Option (MessageRef × ℕ)) Breach) (x : MessageRef × ℕ) → received ≡ k.state.received → IsFrontOf received stream found → found ≡ Ok (Some x) → BeginsWithMessage k stream
+front_begins k stream received found x same front is =
+    let at : IsFrontOf k.state.received stream (Ok (Some x)) = subst (λ (h : Received). IsFrontOf h stream (Ok (Some x))) same (subst (λ (r : Result (Option (MessageRef × ℕ)) Breach). IsFrontOf received stream r) is front) in
+    (owned_message x.0, drop x.1 stream, at)

@@ -32,6 +32,10 @@ IsIllegalHere k rest (illegals.Decode breach) = message_at k.state.received rest
 IsIllegalHere k rest (illegals.Step error) =
     (m : Message) × (after : List ℕ) × (message_at k.state.received rest ≡ Ok (Some (m, after))) × Refuses k m error
 
+-- A whole message is at the front of the stream.
+abbrev pub BeginsWithMessage : KnownState → List ℕ → Type 0
+BeginsWithMessage k stream = (m : Message) × (rest : List ℕ) × (message_at k.state.received stream ≡ Ok (Some (m, rest)))
+
 -- The stream is legal up to this place, where a message ends and no legal message follows.
 abbrev pub IsIllegalAt : KnownState → List ℕ → Illegal → ℕ → Type 0
 IsIllegalAt k stream illegal place =

@@ -1,8 +1,10 @@
 //! Reading streams message by message, from a known state on.
 
-ghost use Rattle.std.specs.Prelude.{◌≡◌, ◌≢◌, ◌≤◌, ℕ, List, [], length, drop, Ok, Some, IfOk};
+ghost use Rattle.std.specs.Prelude.{◌≡◌, ◌≢◌, ◌≤◌, ℕ, List, [], length, drop, Ok, Some, IfSome, IfNone, IfOk, IfErr};
+ghost use Rattle.table_types.specs.declared.update.Update.{Update};
 ghost use Rattle.peers_msg.specs.Reading.{message_at};
 ghost use Rattle.price_checker.specs.Readings.{IsNext, IsReading};
+ghost use Rattle.price_checker.specs.Verdicts.{BeginsWithMessage};
 
 use crate::comparison::Comparison;
 use crate::verdict::Illegal;
@@ -70,8 +72,24 @@ fn read_message(
     }
 }
 
-/// Reads a stream from the known state on, as far as it is legal, and compares what it carries with `updates`.
-pub fn read(
+/// Returns what a stream is if no whole message is at its front.
+fn read_no_message(known: &Known, stream: &[u8]) -> Option<Reading>
+    ensures read { IfSome result (λ reading. (us : List Update) → IsReading known.now us stream.now reading) }
+    ensures message { IfNone result (BeginsWithMessage known.now stream.now) }
+{
+    if stream.is_empty() {
+        return Some(Reading::Legal(Comparison::Same(0)));
+    }
+    match front(known.received(), stream) {
+        Ok(Some(_)) => None,
+        Ok(None) => Some(Reading::Illegal(Illegal::Cut, 0)),
+        Err(breach) => Some(Reading::Illegal(Illegal::Decode(breach), 0)),
+    }
+}
+
+/// Reads a stream message by message from the known state on, as far as it is legal, and compares what it carries with
+/// `updates`.
+fn read_messages(
     alloc: Global,
     known: &Known,
     updates: &[Update],
@@ -92,4 +110,21 @@ pub fn read(
         }
     }
     Ok(Reading::Legal(comparison))
+}
+
+/// Reads a stream from the known state on, as far as it is legal, and compares what it carries with `updates`. Allocates
+/// only if a whole message is at its front.
+pub fn read(
+    alloc: Global,
+    known: &Known,
+    updates: &[Update],
+    stream: &[u8],
+) -> Result<Reading, Memory>
+    ensures read { IfOk result (λ reading. IsReading known.now updates.now stream.now reading) }
+    ensures memory { IfErr result (λ refused. BeginsWithMessage known.now stream.now) }
+{
+    match read_no_message(known, stream) {
+        Some(reading) => Ok(reading),
+        None => read_messages(alloc, known, updates, stream),
+    }
 }

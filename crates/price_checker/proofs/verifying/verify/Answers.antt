@@ -20,7 +20,7 @@ returns-clause-exactly c =
     let us = c.args.batch.now in
     let stream = c.args.stream.now in
     let prices = c.args.prices.now in
-    of_answer c.said.result (Says k us stream prices) (λ verdict. (other : Verdict) → Says k us stream prices other → verdict ≡ other) (λ verdict says other also. says_one k us stream prices verdict other c.roster.ensures.own says also) c.said.ensures
+    of_answer c.said.result (Says k us stream prices) (λ verdict. (other : Verdict) → Says k us stream prices other → verdict ≡ other) (λ verdict says other also. says_one k us stream prices verdict other c.roster.ensures.own says also) c.said.ensures.says
 
 pub returns-clause-legal : goal.returns-clause-legal
 returns-clause-legal c =
@@ -28,7 +28,7 @@ returns-clause-legal c =
     let us = c.args.batch.now in
     let stream = c.args.stream.now in
     let prices = c.args.prices.now in
-    of_answer c.said.result (Says k us stream prices) (λ verdict. IsNotLegal verdict ↔ ((carried : List Update) → Carries k stream carried → ⊥)) (λ verdict says. not_legal k us stream prices verdict c.roster.ensures.own says) c.said.ensures
+    of_answer c.said.result (Says k us stream prices) (λ verdict. IsNotLegal verdict ↔ ((carried : List Update) → Carries k stream carried → ⊥)) (λ verdict says. not_legal k us stream prices verdict c.roster.ensures.own says) c.said.ensures.says
 
 pub returns-clause-carried : goal.returns-clause-carried
 returns-clause-carried c =
@@ -36,7 +36,7 @@ returns-clause-carried c =
     let us = c.args.batch.now in
     let stream = c.args.stream.now in
     let prices = c.args.prices.now in
-    of_answer c.said.result (Says k us stream prices) (λ verdict. IsNotCarried verdict ↔ ((carried : List Update) × Carries k stream carried × (carried ≢ us))) (λ verdict says. not_carried k us stream prices verdict c.roster.ensures.own says) c.said.ensures
+    of_answer c.said.result (Says k us stream prices) (λ verdict. IsNotCarried verdict ↔ ((carried : List Update) × Carries k stream carried × (carried ≢ us))) (λ verdict says. not_carried k us stream prices verdict c.roster.ensures.own says) c.said.ensures.says
 
 pub returns-clause-shortest : goal.returns-clause-shortest
 returns-clause-shortest c =
@@ -47,4 +47,4 @@ returns-clause-shortest c =
     let sound : roster_fault k.roster ≡ None = subst (λ (ds : List Definition). roster_fault ds ≡ None) c.roster.ensures.roster c.tables-tables.ensures.sound in
     let slots : length k.state.slots ≡ 128 = ap length (sym c.slots.ensures) ∙ sym c.len-slots.ensures.count ∙ c.len-slots.ensures.all in
     of_answer c.said.result (Says k us stream prices) (λ verdict. (bytes : ℕ) → verdict ≡ verdicts.Shortest bytes → (ms : List Message) × (stream ≡ stream_of ms) × (bytes ≡ length stream) × Shortest k us ms)
-    (λ verdict says bytes is. shortest_said k us stream prices bytes sound c.roster.ensures.own slots (subst (λ (v : Verdict). Says k us stream prices v) is says)) c.said.ensures
+    (λ verdict says bytes is. shortest_said k us stream prices bytes sound c.roster.ensures.own slots (subst (λ (v : Verdict). Says k us stream prices v) is says)) c.said.ensures.says

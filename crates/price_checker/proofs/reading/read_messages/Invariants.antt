@@ -1,6 +1,6 @@
 use Rattle.std.proofs.Common.{length, ◌-◌}
 use Rattle.price_checker.proofs.StreamIsReadOn.{IsReadTo}
-use Rattle.price_checker.proofs.reading.read.Given as goal
+use Rattle.price_checker.proofs.reading.read_messages.Given as goal
 
 abbrev pub invariant-loop-place : goal.invariant-loop-place
 invariant-loop-place l = IsReadTo l.known l.updates l.stream l.place l.comparison l.after
