@@ -21,7 +21,7 @@ use table_cell::{
     AckError, CheckpointError, CloseError, CopyError, Dropped, LearnError, OpenError, PurgeError,
     RenumberError, Reply, StrangeBatch, TrackError,
 };
-use table_types::{Batch, Change, CopyKind, Key, Moment, Settled, Update};
+use table_types::{Batch, Change, CopyKind, Key, Moment, Settled, Update, Version};
 
 /// Calls `TableCell::track` for the seat, and adds a receipt.
 pub fn track(
@@ -67,7 +67,7 @@ pub fn copy(
     limit: usize,
     now: Moment,
 ) -> (Seat, Result<Batch, ShardError<CopyError>>)
-    requires { (1 ≤ limit) × (limit ≤ 512) }
+    requires { (1 ≤ limit) × (limit ≤ 4096) }
     ensures { Holds (λ c r e. Copies c session kind limit now r e)
         (λ batch. receipted table locked.old seat (events.Copy session kind limit now) (replies.Copy batch))
         table locked.old seat result.1 locked.new result.0 }
@@ -151,11 +151,12 @@ pub fn open_session(
     mut seat: Seat,
     table: u64,
     session: u32,
+    version: Version,
 ) -> (Seat, Result<(), ShardError<OpenError>>)
-    ensures { Holds (λ c r e. Opens c session r e) (λ done. receipted table locked.old seat (events.Open session) replies.Open)
+    ensures { Holds (λ c r e. Opens c session version r e) (λ done. receipted table locked.old seat (events.Open session version) replies.Open)
         table locked.old seat result.1 locked.new result.0 }
 {
-    let result = lent::open_session(locked, &mut seat, table, session);
+    let result = lent::open_session(locked, &mut seat, table, session, version);
     (seat, result)
 }
 

@@ -122,7 +122,13 @@ pub fn are_same_events(one: &CellEvent, other: &CellEvent) -> bool
                 number: other_number,
             },
         ) => *session == *other_session && *number == *other_number,
-        (CellEvent::Open { session }, CellEvent::Open { session: other }) => *session == *other,
+        (
+            CellEvent::Open { session, version },
+            CellEvent::Open {
+                session: other_session,
+                version: other_version,
+            },
+        ) => *session == *other_session && *version == *other_version,
         (CellEvent::Close { session }, CellEvent::Close { session: other }) => *session == *other,
         (CellEvent::Purge { moment }, CellEvent::Purge { moment: other }) => *moment == *other,
         _ => false,

@@ -20,7 +20,7 @@ use table_cell::{
     AckError, CheckpointError, CloseError, CopyError, Dropped, Entry, LearnError, OpenError,
     PurgeError, RenumberError, Reply, StrangeBatch, TrackError,
 };
-use table_types::{Batch, Change, CopyKind, Key, Moment, Settled, Update};
+use table_types::{Batch, Change, CopyKind, Key, Moment, Settled, Update, Version};
 
 /// Returns why the call may not be made: the cell is another table's, or the seat has seen more events than the cell
 /// has.
@@ -155,7 +155,7 @@ pub fn copy(
     limit: usize,
     now: Moment,
 ) -> Result<Batch, ShardError<CopyError>>
-    requires { (1 ≤ limit) × (limit ≤ 512) }
+    requires { (1 ≤ limit) × (limit ≤ 4096) }
     ensures { Holds (λ c r e. Copies c session kind limit now r e)
         (λ batch. receipted table locked.old seat.old (events.Copy session kind limit now) (replies.Copy batch))
         table locked.old seat.old result locked.new seat.new }
@@ -246,12 +246,16 @@ pub fn open_session(
     seat: &mut Seat,
     table: u64,
     session: u32,
+    version: Version,
 ) -> Result<(), ShardError<OpenError>>
-    ensures { Holds (λ c r e. Opens c session r e) (λ done. receipted table locked.old seat.old (events.Open session) replies.Open)
+    ensures { Holds (λ c r e. Opens c session version r e) (λ done. receipted table locked.old seat.old (events.Open session version) replies.Open)
         table locked.old seat.old result locked.new seat.new }
 {
     let room = begin(locked, &mut seat.book, table)?;
-    let entry = locked.cell.open_shared(session).map_err(ShardError::Cell)?;
+    let entry = locked
+        .cell
+        .open_shared(session, version)
+        .map_err(ShardError::Cell)?;
     finish(locked, &mut seat.book, room, table, entry);
     Ok(())
 }

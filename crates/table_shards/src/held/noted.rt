@@ -46,7 +46,7 @@ pub fn copy(
     limit: usize,
     now: Moment,
 ) -> Result<Batch, ShardError<CopyError>>
-    requires { (1 ≤ limit) × (limit ≤ 512) }
+    requires { (1 ≤ limit) × (limit ≤ 4096) }
     ensures { Notes (λ mid. Holds (λ c r e. Copies c session kind limit now r e)
         (λ batch. receipted table locked.old seat.old (events.Copy session kind limit now) (replies.Copy batch))
         table locked.old seat.old result locked.new mid)
