@@ -80,6 +80,10 @@ pub leaves_within : (hs room : List ℕ) (arcs : List RequestArc) (steps : List 
 leaves_within hs room arcs steps None long leaves = tt
 leaves_within hs room arcs steps (Some arc) long leaves = omega (arith, leaves.0, long)
 
+pub leaves_below : (hs room : List ℕ) (arcs : List RequestArc) (steps : List (Option Step)) (leaving : Option Leaving) (most : ℕ) → length arcs < most → IfSome leaving (Leaves hs room arcs steps) → IfSome leaving (λ arc. arc.node < most)
+leaves_below hs room arcs steps None most few leaves = tt
+leaves_below hs room arcs steps (Some arc) most few leaves = omega (arith, leaves.0, few)
+
 -- heights that rose by the least slack are calm, and that of the target is unchanged
 pub raised_least : (hs new room : List ℕ) (arcs : List RequestArc) (steps : List (Option Step)) (target : ℕ) (least : Option Leaving) (leaving : Leaving) → GoBack arcs → IsCalm hs room arcs → target ≤ length arcs → is_reached steps target ≡ false → least ≡ Some leaving
     → ((by : ℕ) → IsNoMore by least → IsSlack hs room arcs (is_reached steps) by) → length new ≡ length hs → IsRaised hs new (is_reached steps) leaving.slack → IsCalm new room arcs × (slice_index new target ≡ slice_index hs target)

@@ -8,7 +8,7 @@ ghost use Rattle.retention_flow.specs.Network.{arc_at, AreArcs, GoBack, SaveLitt
 
 use crate::arcs::RequestArc;
 use crate::augmenting::augment;
-use crate::path_search::search;
+use crate::path_search::quick_search;
 use crate::plans::plan_of;
 use crate::spreading::later_ends;
 use crate::steps::Ends;
@@ -81,15 +81,7 @@ fn add_slots(
         if heights[ends.source] == heights[ends.target] {
             return Ok(());
         }
-        let steps = search(
-            alloc,
-            heights.len(),
-            ends,
-            heights,
-            room,
-            arcs,
-            later.as_slice(),
-        )?;
+        let steps = quick_search(alloc, ends, heights, room, arcs, later.as_slice())?;
         augment(ends, room, arcs, &steps);
     }
     Ok(())

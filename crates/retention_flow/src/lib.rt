@@ -2,9 +2,14 @@
 //! slot is a unit of flow through the places of the requests, and a kept link carries one unit past the places inside
 //! it.
 //!
-//! The planner begins with all links kept, in as many slots as that takes, and takes the surplus slots away one by one,
-//! each along an augmenting path of least cost. Heights are the potentials of the nodes, and the slack of a residual
-//! arc is its reduced cost. Heights are calm if no residual arc has a negative slack.
+//! There are two ways to the flow. One begins with all links kept, in as many slots as that takes, and takes the slots
+//! that are too many away one by one. The other begins with only those links kept that have nothing inside, and adds one
+//! slot after another. Both go along augmenting paths of least cost, which one kind of search finds: from the last node
+//! to the first, or from the first to the last. `plan` goes the way that needs at most `slots - 1` searches, and
+//! `plan_by_cycles` always takes away.
+//!
+//! Heights are the potentials of the nodes, and the slack of a residual arc is its reduced cost. Heights are calm if no
+//! residual arc has a negative slack.
 #![tactic(auto)]
 
 mod adding;
@@ -17,6 +22,7 @@ mod planning;
 mod plans;
 mod raising;
 mod room;
+mod settling;
 mod spreading;
 mod steps;
 mod taking;

@@ -7,10 +7,14 @@ ghost use Rattle.retention_flow.specs.Network.{is_reached, GoBack, SaveLittle, I
 use crate::arcs::RequestArc;
 use crate::leaving::least_leaving;
 use crate::raising::raise;
+use crate::settling::settle;
 use crate::spreading::{reach, spread};
 use crate::steps::{Ends, ResidualArc, Step};
 use std::alloc::Global;
 use table_types::Memory;
+
+/// How often a quick search raises heights before it asks the heap.
+const FEW_RAISES: usize = 2;
 
 /// Returns the steps by which only the source is reached.
 fn first_step(alloc: Global, nodes: usize, source: usize) -> Result<Vec<Option<Step>>, Memory>
@@ -119,5 +123,35 @@ pub fn search(
     reach_target(
         most, ends, heights, room, arcs, later, &mut steps, &mut order,
     )?;
+    Ok(steps)
+}
+
+/// Like `search`, until the target is reached. After a few raises it takes the heights from a heap, and begins anew.
+pub fn quick_search(
+    alloc: Global,
+    ends: Ends,
+    heights: &mut [u64],
+    room: &[usize],
+    arcs: &[RequestArc],
+    later: &[usize],
+) -> Result<Vec<Option<Step>>, Memory>
+    requires back { GoBack arcs.now }
+    requires little { SaveLittle arcs.now }
+    requires calm { IsCalm heights.old room.now arcs.now }
+    requires room { length room.now ≡ length arcs.now }
+    requires low { AreLow room.now arcs.now ends.target (slice_index heights.old ends.target) }
+    requires later { (length later.now ≡ length arcs.now) × ((node : ℕ) → node < length arcs.now → slice_index later.now node < length arcs.now) }
+    requires ends { (ends.source ≤ length arcs.now) × (ends.target ≤ length arcs.now) }
+    ensures calm { IfOk result (λ steps. IsCalm heights.new room.now arcs.now) }
+    ensures target { IfOk result (λ steps. slice_index heights.new ends.target ≡ slice_index heights.old ends.target) }
+    ensures reached { IfOk result (λ steps. is_reached steps.items ends.target ≡ true) }
+    ensures steps { IfOk result (λ steps. (count : ℕ) × IsSearch heights.new room.now arcs.now steps.items ends.source count) }
+{
+    let steps = search(alloc, FEW_RAISES, ends, heights, room, arcs, later)?;
+    if steps[ends.target].is_some() {
+        return Ok(steps);
+    }
+    settle(alloc, ends, heights, room, arcs, later)?;
+    let steps = search(alloc, heights.len(), ends, heights, room, arcs, later)?;
     Ok(steps)
 }

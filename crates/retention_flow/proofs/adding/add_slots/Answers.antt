@@ -18,21 +18,21 @@ loop-init c = record {
   arcs = λ held rs are. are;
 }
 
-pub search-requires-clause-back : goal.search-requires-clause-back
-search-requires-clause-back c = c.loop.invariant.back
+pub quick_search-requires-clause-back : goal.quick_search-requires-clause-back
+quick_search-requires-clause-back c = c.loop.invariant.back
 
-pub search-requires-clause-little : goal.search-requires-clause-little
-search-requires-clause-little c = c.loop.invariant.little
+pub quick_search-requires-clause-little : goal.quick_search-requires-clause-little
+quick_search-requires-clause-little c = c.loop.invariant.little
 
-pub search-requires-clause-calm : goal.search-requires-clause-calm
-search-requires-clause-calm c = c.loop.invariant.calm
+pub quick_search-requires-clause-calm : goal.quick_search-requires-clause-calm
+quick_search-requires-clause-calm c = c.loop.invariant.calm
 
-pub search-requires-clause-low : goal.search-requires-clause-low
-search-requires-clause-low c =
+pub quick_search-requires-clause-low : goal.quick_search-requires-clause-low
+quick_search-requires-clause-low c =
     low_from_last c.loop.room c.loop.arcs (length c.args.arcs.now) (slice_index c.loop.heights (length c.args.arcs.now)) (sym c.loop.invariant.many) c.loop.invariant.low
 
-pub search-requires-clause-later : goal.search-requires-clause-later
-search-requires-clause-later c =
+pub quick_search-requires-clause-later : goal.quick_search-requires-clause-later
+quick_search-requires-clause-later c =
     let many = length c.loop.arcs in
     subst (λ (l : List ℕ). (length l ≡ many) × ((node : ℕ) → node < many → slice_index l node < many)) (sym c.as_slice.ensures.value) c.loop.invariant.later
 
@@ -45,18 +45,18 @@ augment-requires-clause-little c = c.loop.invariant.little
 pub augment-requires-clause-search : goal.augment-requires-clause-search
 augment-requires-clause-search c =
     let found = c.in_ok-steps.ensures.steps in (
-      c.search.new.heights,
+      c.quick_search.new.heights,
       found.0,
       c.loop.counter + 1,
       omega (arith, c.requires.count, c.loop-test.true),
       c.in_ok-steps.ensures.calm,
-      subst (λ (l : List (Option Step)). IsSearch c.search.new.heights c.loop.room c.loop.arcs l 0 found.0) (sym c.deref.ensures.value) found.1,
+      subst (λ (l : List (Option Step)). IsSearch c.quick_search.new.heights c.loop.room c.loop.arcs l 0 found.0) (sym c.deref.ensures.value) found.1,
       room_from_last c.loop.counter (length c.args.arcs.now) c.loop.room c.loop.arcs (omega (arith, c.loop.invariant.many)) c.loop.invariant.room,
     )
 
 pub loop-preserved : goal.loop-preserved
 loop-preserved c =
-    let hs = c.search.new.heights in
+    let hs = c.quick_search.new.heights in
     let calm = c.in_ok-steps.ensures.calm in
     let count = c.in_ok-steps.ensures.steps.0 in
     let last = length c.args.arcs.now in

@@ -23,7 +23,7 @@ add_slots-requires-clause-room c =
 pub returns : goal.returns
 returns c =
     let given = c.in_ok-add_slots.ensures in
-    let heights : c.deref.result.now ≡ c.add_slots.new.heights = 
+    let heights : c.deref.result.now ≡ c.add_slots.new.heights =
     c.deref.ensures.value ∙ written c.add_slots.new.heights (drop (length c.add_slots.new.heights) c.in_ok-heights.heights.items) c.in_ok-heights.heights.len (omega (arith, c.in_ok-heights.heights.ok.0, ap (λ (l : List ℕ). length l) c.deref_mut.ensures.value, c.add_slots.auto.heights)) in
     IfOk-weaker c.plan_of.result (λ plan. plan ≡ plan_of c.deref.result.now c.add_slots.new.arcs)
     (λ plan. (held : List (List ℕ)) → (rs : List Asked) → AreArcs (at_start held) rs c.args.arcs.now → Accepts c.args.slots held rs plan) (λ plan is held rs are.

@@ -10,7 +10,7 @@ use Rattle.retention_flow.proofs.taking.plan_by_taking.Goals as goal
 pub returns : goal.returns
 returns c =
     let taken = c.in_ok-take_away.ensures in
-    let heights : c.deref.result.now ≡ c.take_away.new.heights = 
+    let heights : c.deref.result.now ≡ c.take_away.new.heights =
     c.deref.ensures.value ∙ written c.take_away.new.heights (drop (length c.take_away.new.heights) c.in_ok-heights.heights.items) c.in_ok-heights.heights.len (omega (arith, c.in_ok-heights.heights.ok.0, ap (λ (l : List ℕ). length l) c.deref_mut.ensures.value, c.take_away.auto.heights)) in
     let left : c.args.taken - (c.args.taken + 1 - c.args.slots) ≡ c.args.slots - 1 = omega (arith, c.requires.slots) in
     IfOk-weaker c.plan_of.result (λ plan. plan ≡ plan_of c.deref.result.now c.take_away.new.arcs)

@@ -1,0 +1,286 @@
+//! Heights by which a search reaches its target without raising any.
+//!
+//! Each height rises by as much as its node is nearer to the source than the target is, if the length of a residual arc
+//! is its slack. The distances come from a heap (Dijkstra), and nothing is proved of them: the heights are used only if
+//! a test finds them calm.
+
+ghost use Rattle.std.specs.Prelude.{◌≡◌, ℕ, ◌+◌, ◌^◌, ◌≤◌, ◌<◌, ◌↔◌, IsTrue, false, List, length, slice_index, IfOk, IfSome};
+ghost use Rattle.retention_flow.specs.declared.arcs.RequestArc.{RequestArc};
+ghost use Rattle.retention_flow.specs.Network.{arc_at, is_reached, GoBack, SaveLittle, IsCalmRise, IsCalmArc, IsCalm};
+
+use crate::arcs::RequestArc;
+use crate::leaving::{over_arc, over_place};
+use crate::steps::{Ends, Leaving, ResidualArc, Step};
+use std::alloc::Global;
+use std::cmp::Reverse;
+use std::collections::BinaryHeap;
+use table_types::Memory;
+
+/// The distances from the source found so far.
+#[derive(Drop)]
+struct Distances {
+    /// For each node, the least of them.
+    least: Vec<u64>,
+    /// All of them with their nodes, the least first.
+    heap: BinaryHeap<Reverse<(u64, usize)>>,
+}
+
+/// Returns distances of `nodes` nodes: 0 for the source, and none found for the others.
+fn first_distances(alloc: Global, nodes: usize, source: usize) -> Result<Distances, Memory>
+    requires { source < nodes }
+    ensures { IfOk result (λ found. length found.least.items ≡ nodes) }
+{
+    let mut least = vec![in alloc; u64::MAX; nodes]?;
+    least[source] = 0;
+    let mut heap = BinaryHeap::new(alloc);
+    heap.push(Reverse((0, source)))?;
+    Ok(Distances { least, heap })
+}
+
+/// Notes the distance of the node of `leaving` over its arc, if its tail is at `distance`. It is of no use unless it is
+/// less than that noted before, and than that of the target.
+fn note(
+    leaving: Option<Leaving>,
+    distance: u64,
+    target: usize,
+    found: &mut Distances,
+) -> Result<(), Memory>
+    requires node { IfSome leaving (λ arc. arc.node < length found.old.least.items) }
+    requires target { target < length found.old.least.items }
+    ensures { IfOk result (λ done. length found.new.least.items ≡ length found.old.least.items) }
+{
+    let Some(leaving) = leaving else {
+        return Ok(());
+    };
+    let distance = distance.saturating_add(leaving.slack);
+    if distance < found.least[leaving.node].min(found.least[target]) {
+        found.least[leaving.node] = distance;
+        found.heap.push(Reverse((distance, leaving.node)))?;
+    }
+    Ok(())
+}
+
+/// Returns the residual arc over the place before `node`, if there is one and it leaves the nodes reached.
+fn over_place_before(
+    heights: &[u64],
+    room: &[usize],
+    steps: &[Option<Step>],
+    node: usize,
+) -> Option<Leaving>
+    requires calm { (arcs : List RequestArc) × IsCalm heights.now room.now arcs × (length room.now ≡ length arcs) × (length steps.now ≡ length arcs + 1) × (node ≤ length arcs) }
+    ensures { IfSome result (λ arc. arc.node < length steps.now) }
+{
+    if node == 0 {
+        return None;
+    }
+    over_place(heights, room, steps, node - 1)
+}
+
+/// Notes the distances of the nodes to which all arcs that begin at `node` lead, if that is the first node.
+fn note_from_first(
+    heights: &[u64],
+    arcs: &[RequestArc],
+    steps: &[Option<Step>],
+    target: usize,
+    node: usize,
+    found: &mut Distances,
+) -> Result<(), Memory>
+    requires back { GoBack arcs.now }
+    requires little { SaveLittle arcs.now }
+    requires small { (node : ℕ) → node < length heights.now → slice_index heights.now node ≤ 2 ^ 32 }
+    requires long { (length heights.now ≡ length arcs.now + 1) × (length steps.now ≡ length arcs.now + 1) × (length found.old.least.items ≡ length arcs.now + 1) }
+    requires calm { (node : ℕ) → node < length arcs.now → IsCalmArc heights.now node (arc_at arcs.now node) }
+    requires target { target ≤ length arcs.now }
+    ensures { IfOk result (λ done. length found.new.least.items ≡ length found.old.least.items) }
+{
+    if node > 0 {
+        return Ok(());
+    }
+    let distance = found.least[node];
+    for (index, arc) in arcs.iter().enumerate() {
+        if arc.from == 0 {
+            let leaving = over_arc(heights, arcs, steps, index);
+            note(leaving, distance, target, found)?;
+        }
+    }
+    Ok(())
+}
+
+/// Notes the distances of the nodes next to `node`, which is at its least distance.
+fn note_from(
+    heights: &[u64],
+    room: &[usize],
+    arcs: &[RequestArc],
+    later: &[usize],
+    steps: &[Option<Step>],
+    target: usize,
+    node: usize,
+    found: &mut Distances,
+) -> Result<(), Memory>
+    requires calm { IsCalm heights.now room.now arcs.now }
+    requires back { GoBack arcs.now }
+    requires little { SaveLittle arcs.now }
+    requires room { length room.now ≡ length arcs.now }
+    requires small { (node : ℕ) → node < length heights.now → slice_index heights.now node ≤ 2 ^ 32 }
+    requires later { (length later.now ≡ length arcs.now) × ((node : ℕ) → node < length arcs.now → slice_index later.now node < length arcs.now) }
+    requires node { node ≤ length arcs.now }
+    requires target { target ≤ length arcs.now }
+    requires long { (length steps.now ≡ length arcs.now + 1) × (length found.old.least.items ≡ length arcs.now + 1) }
+    ensures { IfOk result (λ done. length found.new.least.items ≡ length found.old.least.items) }
+{
+    let distance = found.least[node];
+    let before = over_place_before(heights, room, steps, node);
+    note(before, distance, target, found)?;
+    note_from_first(heights, arcs, steps, target, node, found)?;
+    if node == arcs.len() {
+        return Ok(());
+    }
+    let over = over_arc(heights, arcs, steps, node);
+    note(over, distance, target, found)?;
+    let on = over_arc(heights, arcs, steps, later[node]);
+    note(on, distance, target, found)?;
+    let after = over_place(heights, room, steps, node);
+    note(after, distance, target, found)?;
+    Ok(())
+}
+
+/// Takes distances from the heap until one is that of a node that isn't reached, and returns the node.
+fn nearest(steps: &[Option<Step>], heap: &mut BinaryHeap<Reverse<(u64, usize)>>) -> Option<usize>
+    ensures { IfSome result (λ node. (node < length steps.now) × (is_reached steps.now node ≡ false)) }
+{
+    while let Some(Reverse((_, node))) = heap.pop() {
+        if node < steps.len() && steps[node].is_none() {
+            return Some(node);
+        }
+    }
+    None
+}
+
+/// Returns the distances from the source: of each node nearer than the target the least, and of the others none less than
+/// the target's.
+fn find_distances(
+    alloc: Global,
+    ends: Ends,
+    heights: &[u64],
+    room: &[usize],
+    arcs: &[RequestArc],
+    later: &[usize],
+) -> Result<Vec<u64>, Memory>
+    requires calm { IsCalm heights.now room.now arcs.now }
+    requires back { GoBack arcs.now }
+    requires little { SaveLittle arcs.now }
+    requires room { length room.now ≡ length arcs.now }
+    requires small { (node : ℕ) → node < length heights.now → slice_index heights.now node ≤ 2 ^ 32 }
+    requires later { (length later.now ≡ length arcs.now) × ((node : ℕ) → node < length arcs.now → slice_index later.now node < length arcs.now) }
+    requires ends { (ends.source ≤ length arcs.now) × (ends.target ≤ length arcs.now) }
+    ensures { IfOk result (λ distances. length distances.items ≡ length arcs.now + 1) }
+{
+    let mut found = first_distances(alloc, heights.len(), ends.source)?;
+    let mut steps = vec![in alloc; None; heights.len()]?;
+    while let Some(node) = nearest(&steps, &mut found.heap) {
+        if node == ends.target {
+            return Ok(found.least);
+        }
+        steps[node] = Some(Step {
+            rank: 0,
+            arc: ResidualArc::Start,
+        });
+        note_from(
+            heights,
+            room,
+            arcs,
+            later,
+            &steps,
+            ends.target,
+            node,
+            &mut found,
+        )?;
+    }
+    Ok(found.least)
+}
+
+/// Returns whether no change to whether `arc` is kept gains anything, if the heights of its ends are these.
+fn is_calm_rise(arc: RequestArc, low: u64, high: u64) -> bool
+    ensures { IsTrue result ↔ IsCalmRise arc.kept arc.saving low high }
+{
+    if arc.kept {
+        return high.saturating_sub(low) <= arc.saving;
+    }
+    low <= high && arc.saving <= high - low
+}
+
+/// Returns whether the heights rise over the place after `node`, and only if no slot is free there.
+fn is_calm_place(heights: &[u64], room: &[usize], node: usize) -> bool
+    requires heights { node + 1 < length heights.now }
+    requires room { node < length room.now }
+    ensures rises { IsTrue result → slice_index heights.now node ≤ slice_index heights.now (node + 1) }
+    ensures full { IsTrue result → 0 < slice_index room.now node → slice_index heights.now (node + 1) ≤ slice_index heights.now node }
+{
+    if room[node] > 0 {
+        return heights[node] == heights[node + 1];
+    }
+    heights[node] <= heights[node + 1]
+}
+
+/// Returns whether the heights are calm.
+fn is_calm(heights: &[u64], room: &[usize], arcs: &[RequestArc]) -> bool
+    requires long { (length heights.now ≡ length arcs.now + 1) × (length room.now ≡ length arcs.now) }
+    requires back { GoBack arcs.now }
+    ensures { IsTrue result → IsCalm heights.now room.now arcs.now }
+{
+    for (node, arc) in arcs.iter().enumerate() {
+        if !is_calm_place(heights, room, node) {
+            return false;
+        }
+        if !is_calm_rise(*arc, heights[arc.from], heights[node]) {
+            return false;
+        }
+    }
+    true
+}
+
+/// Returns the heights, each raised by as much as its node is nearer to the source than the target is.
+fn nearer_raised(
+    alloc: Global,
+    target: usize,
+    heights: &[u64],
+    distances: &[u64],
+) -> Result<Vec<u64>, Memory>
+    requires long { length distances.now ≡ length heights.now }
+    requires target { target < length heights.now }
+    ensures { IfOk result (λ raised. length raised.items ≡ length heights.now) }
+{
+    let farthest = distances[target];
+    let mut raised = Vec::new(alloc);
+    for (node, height) in heights.iter().enumerate() {
+        raised.push(height.saturating_add(farthest.saturating_sub(distances[node])))?;
+    }
+    Ok(raised)
+}
+
+/// Replaces the heights by those with which a search reaches the target without raising any, unless these fail the test.
+pub fn settle(
+    alloc: Global,
+    ends: Ends,
+    heights: &mut [u64],
+    room: &[usize],
+    arcs: &[RequestArc],
+    later: &[usize],
+) -> Result<(), Memory>
+    requires calm { IsCalm heights.old room.now arcs.now }
+    requires back { GoBack arcs.now }
+    requires little { SaveLittle arcs.now }
+    requires room { length room.now ≡ length arcs.now }
+    requires small { (node : ℕ) → node < length heights.old → slice_index heights.old node ≤ 2 ^ 32 }
+    requires later { (length later.now ≡ length arcs.now) × ((node : ℕ) → node < length arcs.now → slice_index later.now node < length arcs.now) }
+    requires ends { (ends.source ≤ length arcs.now) × (ends.target ≤ length arcs.now) }
+    ensures calm { IfOk result (λ done. IsCalm heights.new room.now arcs.now) }
+    ensures target { IfOk result (λ done. slice_index heights.new ends.target ≡ slice_index heights.old ends.target) }
+{
+    let distances = find_distances(alloc, ends, heights, room, arcs, later)?;
+    let raised = nearer_raised(alloc, ends.target, heights, &distances)?;
+    if raised[ends.target] == heights[ends.target] && is_calm(&raised, room, arcs) {
+        heights.copy_from_slice(&raised);
+    }
+    Ok(())
+}
