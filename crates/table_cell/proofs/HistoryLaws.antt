@@ -35,7 +35,7 @@ pub is_made : (o : OriginState) (s e : TableState) (history later : List (CellEv
     → Made (cell_of o history s) event reply (cell_of o later e)
 is_made o s e history later event reply step longer = (
   step,
-  ap (λ (hs : List (CellEvent × CellReply)). record { base = o.base; dropped = o.dropped; history = hs; state = e; slid = length o.past; held = o.held })
+  ap (λ (hs : List (CellEvent × CellReply)). record { base = o.base; dropped = o.dropped; history = hs; state = e; slid = length o.past; held = o.held; renewals = o.renewals })
       (ap (λ (hs : List (CellEvent × CellReply)). o.past ++ hs) longer ∙ sym (append_assoc o.past history ((event, reply) ∷ []))),
 )
 

@@ -1,5 +1,5 @@
 -- Rows that get new numbers.
-use Rattle.std.proofs.Common.{◌≡◌, ℕ, suc, ◌+◌, ◌<◌, ◌≤◌, true, false, not, List, [], ◌∷◌, ◌++◌, length, None, refl, sym, ap, subst, ◌∙◌, arith, append_assoc}
+use Rattle.std.proofs.Common.{◌≡◌, ℕ, suc, ◌+◌, ◌%◌, ◌^◌, ◌<◌, ◌≤◌, true, false, not, List, [], ◌∷◌, ◌++◌, length, None, refl, sym, ap, subst, ◌∙◌, arith, append_assoc}
 use Rattle.std.specs.Prelude.{nat_lt}
 use Rattle.std.specs.List.{AllByRecursion}
 use Rattle.std.specs.Ordering.{is_eq}
@@ -17,7 +17,7 @@ use Rattle.table_cell.specs.Histories.{CellState, IsSoundCell, begun_anew, event
 use Rattle.table_cell.specs.Cells.{IsCell, OriginState, cell_of}
 use Rattle.table_cell.specs.LearnedRuns.{IsLearnedRun, IsPassedWithin}
 use Rattle.table_cell.specs.Stock.{Stocked}
-use Rattle.table_cell.specs.Renumbering.{numbered_from, renumbered}
+use Rattle.table_cell.specs.Renumbering.{numbered_from, renewed, renumbered}
 use Rattle.table_cell.proofs.RowsLaws.{none_from, none_parts, some_none}
 use Rattle.table_cell.proofs.StockLaws.{one_turned}
 
@@ -74,7 +74,7 @@ renumbered_sound s sound none =
       few = sound.few;
     }
 
-pub renumbered_cell : (c : CellState) → IsSoundCell c → c.state.sessions ≡ [] → IsSoundCell (begun_anew (record c { state = renumbered c.state }))
+pub renumbered_cell : (c : CellState) → IsSoundCell c → c.state.sessions ≡ [] → IsSoundCell (begun_anew (renewed c))
 renumbered_cell c cell none =
     let sound = renumbered_sound c.state cell.sound none in
     let few = cell.few in
@@ -82,11 +82,11 @@ renumbered_cell c cell none =
 
 -- ---- the parts of a cell
 
-abbrev pub begun_at : TableState → ℕ → OriginState
-begun_at s before = record { base = s; dropped = before; past = []; held = [] }
+abbrev pub begun_at : TableState → ℕ → ℕ → OriginState
+begun_at s before renewals = record { base = s; dropped = before; past = []; held = []; renewals = renewals }
 
 pub renumbered_parts : (o : OriginState) (s : TableState) (hs : List (CellEvent × CellReply)) (copies : List (ℕ × (CellEvent × CellReply))) → s.sessions ≡ [] → IsCell o hs s copies
-    → IsCell (begun_at (renumbered s) (events_of (cell_of o hs s))) [] (renumbered s) []
+    → IsCell (begun_at (renumbered s) (events_of (cell_of o hs s)) ((o.renewals + 1) % 2 ^ 64)) [] (renumbered s) []
 renumbered_parts o s hs copies none parts = record { sound = renumbered_cell (cell_of o hs s) parts.sound none; latest = λ session. refl }
 
 -- ---- whether a session is open

@@ -163,7 +163,7 @@ pub slid_so : (o : OriginState) (hs : Entries) (s : TableState) (copies : Copies
 slid_so o hs s copies c view cell = subst (λ (x : CellState). Slides x hs (cell_of (slid_origin o hs (open_of s copies)) [] s)) view (
   sym (kept_is o hs s),
   open_of s copies,
-  ap (λ (l : Entries). record { base = o.base; dropped = o.dropped; history = l; state = s; slid = length (o.past ++ hs); held = open_of s copies }) (append-nil (o.past ++ hs)),
+  ap (λ (l : Entries). record { base = o.base; dropped = o.dropped; history = l; state = s; slid = length (o.past ++ hs); held = open_of s copies; renewals = o.renewals }) (append-nil (o.past ++ hs)),
   λ session. kept_open session o hs s copies cell,
 )
 

@@ -10,16 +10,18 @@ use Rattle.table_cell.specs.Machine.{TableState, new_table}
 use Rattle.table_cell.specs.Histories.{CellState, IsSoundCell, batch_in, held_batch, latest_batch, or_former}
 
 -- What stands before the events that a table has: the state at which its history begins, the number of events dropped
--- before it, the events of the history that slides dropped, and the copies that slides kept, by session.
+-- before it, the events of the history that slides dropped, the copies that slides kept, by session, and how often the rows
+-- got new numbers.
 pub record OriginState : Type 0 where
   pub base : TableState
   pub dropped : ℕ
   pub past : List (CellEvent × CellReply)
   pub held : List (ℕ × (CellEvent × CellReply))
+  pub renewals : ℕ
 
 -- a table with its history, of which it has the events after the past ones
 abbrev pub cell_of : OriginState → List (CellEvent × CellReply) → TableState → CellState
-cell_of o kept s = record { base = o.base; dropped = o.dropped; history = o.past ++ kept; state = s; slid = length o.past; held = o.held }
+cell_of o kept s = record { base = o.base; dropped = o.dropped; history = o.past ++ kept; state = s; slid = length o.past; held = o.held; renewals = o.renewals }
 
 -- the table is a new one whose next number is `first`, or isn't a new one if there is none
 abbrev pub IsNewFrom : TableState → Option ℕ → Type 0

@@ -38,7 +38,7 @@ use Rattle.table_cell.specs.declared.errors.CheckpointError.TheVariants as unbeg
 
 -- A table with its history: the state at which the history begins, the number of events dropped before it, the events
 -- with their replies, and the state after them. Slides have dropped the first `slid` of these events too, but for the
--- copies in `held`, by session.
+-- copies in `held`, by session. Its rows got new numbers `renewals` times; the count starts again after 2^64 - 1.
 pub record CellState : Type 0 where
   pub base : TableState
   pub dropped : ℕ
@@ -46,6 +46,7 @@ pub record CellState : Type 0 where
   pub state : TableState
   pub slid : ℕ
   pub held : List (ℕ × (CellEvent × CellReply))
+  pub renewals : ℕ
 
 -- the state is what replaying the history leads to
 abbrev pub IsReplayed : CellState → Type 0
@@ -179,9 +180,9 @@ IsLatestBatch c session us = kept_batch session c ≡ Some us
 
 -- ---- a history that begins anew, or slides
 
--- the history begins with the present state; the state and the number of events so far stay
+-- the history begins with the present state; the state, the number of events so far and that of renewals stay
 abbrev pub begun_anew : CellState → CellState
-begun_anew c = record { base = c.state; dropped = events_of c; history = []; state = c.state; slid = 0; held = [] }
+begun_anew c = record { base = c.state; dropped = events_of c; history = []; state = c.state; slid = 0; held = []; renewals = c.renewals }
 
 -- what beginning a history anew does: it hands out the events that the table had, needs no memory, and is refused exactly
 -- if a batch of an open session is out
@@ -209,7 +210,7 @@ Slides c hs e =
 -- a new table, without events
 abbrev pub new_cell : Definition → ℕ → Bool → ℕ → CellState
 new_cell d size nopurge first =
-    record { base = new_table d size nopurge first; dropped = 0; history = []; state = new_table d size nopurge first; slid = 0; held = [] }
+    record { base = new_table d size nopurge first; dropped = 0; history = []; state = new_table d size nopurge first; slid = 0; held = []; renewals = 0 }
 
 -- ---- soundness
 

@@ -52,7 +52,7 @@ impl Table {
         ensures stays { self.new ≡ self.old }
     {
         let updates = match self.copied(session, kind, limit, now) {
-            Ok(updates) => updates,
+            Ok(copied) => copied,
             Err(CopyError::Nothing) => {
                 self.pass_learned(session, kind, now);
                 return Err(CopyError::Nothing);

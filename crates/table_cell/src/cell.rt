@@ -73,7 +73,7 @@ impl TableCell {
         let table = Table::new(alloc, definition, size, nopurge, first);
         let latest_copies = BTreeMap::new(alloc);
         Ok(TableCell {
-            origin: Origin::at(&table, 0, &latest_copies),
+            origin: Origin::at(&table, 0, 0, &latest_copies),
             table,
             history: Blocks::new(alloc),
             latest_copies,
@@ -152,6 +152,13 @@ impl TableCell {
         ensures kept { Kept self.now }
     {
         self.origin.before()
+    }
+
+    /// Returns how often the rows got new numbers (`renumber`). The count starts again after 2^64 - 1.
+    pub fn renewals(&self) -> u64
+        ensures { result ≡ self.now.renewals }
+    {
+        self.origin.renewals()
     }
 
     /// Returns how many more events there is room for.

@@ -60,7 +60,7 @@ impl TableCell {
     }
 
     /// Lets the history begin anew with the present state, and returns the events that the table had. The rows, their
-    /// numbers, the sessions and the number of events so far stay. No batch is kept. If a batch of an open session is out,
+    /// numbers, the sessions, and the numbers of events and renewals so far stay. No batch is kept. If a batch of an open session is out,
     /// the call is refused, and nothing has changed. Takes constant time, and doesn't allocate.
     pub fn begin_anew(&mut self) -> Result<Dropped, CheckpointError>
         ensures { BeginsAnew self.old result self.new }
@@ -70,8 +70,9 @@ impl TableCell {
         }
         let alloc = self.table.alloc();
         let events = self.events();
+        let renewals = self.renewals();
         let copies = mem::replace(&mut self.latest_copies, BTreeMap::new(alloc));
-        self.origin = Origin::at(&self.table, events, &self.latest_copies);
+        self.origin = Origin::at(&self.table, events, renewals, &self.latest_copies);
         Ok(Dropped {
             history: mem::replace(&mut self.history, Blocks::new(alloc)),
             copies,

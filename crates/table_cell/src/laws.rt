@@ -10,7 +10,7 @@ ghost use Rattle.table_cell.specs.declared.events.CellEvent.TheVariants as event
 ghost use Rattle.table_cell.specs.declared.events.CellReply.{CellReply};
 ghost use Rattle.table_cell.specs.declared.events.CellReply.TheVariants as replies;
 ghost use Rattle.table_cell.specs.Machine.{IsGranted, Replays, Step, TableState, new_table, unacked};
-ghost use Rattle.table_cell.specs.Renumbering.{renumbered};
+ghost use Rattle.table_cell.specs.Renumbering.{renewed};
 ghost use Rattle.table_cell.specs.Soundness.{AreTimely, IsSound, IsTimely};
 ghost use Rattle.table_cell.specs.Histories.{AreAscending, CellState, IsLatestBatch, IsReplayed, IsSoundCell, Kept, Made, begun_anew, is_history_full, latest_batch, new_cell};
 
@@ -74,7 +74,7 @@ pub fn a_cell_stays_sound()
     ensures new { (d : Definition) (size first : ℕ) (nopurge : Bool) → is_definition d ≡ true → 1 ≤ size → 1 ≤ first → first ≤ 2 ^ 32 →
         IsSoundCell (new_cell d size nopurge first) }
     ensures anew { (c : CellState) → IsSoundCell c → IsSoundCell (begun_anew c) }
-    ensures renumbered { (c : CellState) → IsSoundCell c → c.state.sessions ≡ [] → IsSoundCell (begun_anew (record c { state = renumbered c.state })) }
+    ensures renumbered { (c : CellState) → IsSoundCell c → c.state.sessions ≡ [] → IsSoundCell (begun_anew (renewed c)) }
 {}
 
 /// After each beginning of its history, a sound table with its history was a sound table, and the updates of each batch

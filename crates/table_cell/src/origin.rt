@@ -26,6 +26,8 @@ pub(crate) struct Origin {
     held: Snapshot<BTreeMap<u32, Entry>>,
     /// How many events came before those that the table has.
     before: u64,
+    /// How often the rows got new numbers. The count starts again after 2^64 - 1.
+    renewals: u64,
 }
 
 impl Model for Origin {
@@ -35,16 +37,22 @@ impl Model for Origin {
 
     ghost Value = { OriginState };
 
-    ghost view = { λ o. record { base = o.base.value; dropped = o.before - length (all_of o.past.value); past = all_of o.past.value; held = o.held.value.entries } };
+    ghost view = { λ o. record { base = o.base.value; dropped = o.before - length (all_of o.past.value); past = all_of o.past.value; held = o.held.value.entries; renewals = o.renewals } };
 
     ghost invariant = { λ o. (length (all_of o.past.value) ≤ o.before) × IsNewFrom o.base.value o.first };
 }
 
 impl Origin {
-    /// Begins a history with `table`, after `before` events, with no copies. Takes constant time, and doesn't allocate.
-    pub(crate) fn at(table: &Table, before: u64, copies: &BTreeMap<u32, Entry>) -> Origin
+    /// Begins a history with `table`, after `before` events and `renewals` renewals of its numbers, with no copies. Takes
+    /// constant time, and doesn't allocate.
+    pub(crate) fn at(
+        table: &Table,
+        before: u64,
+        renewals: u64,
+        copies: &BTreeMap<u32, Entry>,
+    ) -> Origin
         requires { copies.now.entries ≡ [] }
-        ensures { result ≡ record { base = table.now; dropped = before; past = []; held = [] } }
+        ensures { result ≡ record { base = table.now; dropped = before; past = []; held = []; renewals = renewals } }
     {
         Origin {
             base: Snapshot::of(table),
@@ -52,6 +60,7 @@ impl Origin {
             past: no_past(),
             held: Snapshot::of(copies),
             before,
+            renewals,
         }
     }
 
@@ -60,6 +69,13 @@ impl Origin {
         ensures { result ≡ self.now.dropped + length self.now.past }
     {
         self.before
+    }
+
+    /// Returns how often the rows got new numbers.
+    pub(crate) fn renewals(&self) -> u64
+        ensures { result ≡ self.now.renewals }
+    {
+        self.renewals
     }
 
     /// If the history begins with a new table, returns the next number of that table.

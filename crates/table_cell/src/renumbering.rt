@@ -31,7 +31,7 @@ impl Table {
 
 impl TableCell {
     /// Gives the rows, in their order, the numbers from 1 on, so that numbers are left for further changes, and lets the
-    /// history begin anew with them. The rows' contents, their origin, the latest moment and the number of events so far
+    /// history begin anew with them. It is no event, but the table counts it (`renewals`). The rows' contents, their origin, the latest moment and the number of events so far
     /// stay. No batch is kept. If a session is open, the call is refused; then, and if memory runs out, nothing has changed.
     pub fn renumber(&mut self) -> Result<(), RenumberError>
         ensures { Renumbers self.old result self.new }
@@ -41,11 +41,12 @@ impl TableCell {
         }
         let alloc = self.table.alloc();
         let events = self.events();
+        let renewals = self.renewals().wrapping_add(1);
         let Ok(()) = self.table.renumber() else {
             return Err(RenumberError::Memory);
         };
         self.latest_copies = BTreeMap::new(alloc);
-        self.origin = Origin::at(&self.table, events, &self.latest_copies);
+        self.origin = Origin::at(&self.table, events, renewals, &self.latest_copies);
         self.history = Blocks::new(alloc);
         Ok(())
     }
