@@ -1,11 +1,13 @@
 -- Events that were dropped, and receipts that were forgotten, are missed.
-use Rattle.std.proofs.Common.{◌≡◌, ◌≢◌, ℕ, ◌+◌, ◌<◌, ◌≤◌, ◌==◌, false, true≢false, List, [], ◌∷◌, ◌++◌, length, Option, Some, None, nat_lt, nat_le, refl, sym, ap, ◌∙◌, arith, inl, inr}
+use Rattle.std.proofs.Common.{◌≡◌, ◌≢◌, ℕ, ◌+◌, ◌%◌, ◌^◌, ◌<◌, ◌≤◌, ◌==◌, ◌&&◌, Bool, false, true≢false, List, [], ◌∷◌, ◌++◌, length, Ok, Option, Some, None, nat_lt, nat_le, refl, sym, ap, ◌∙◌, arith, inl, inr}
+use native.Mathlib.Nat.{mod-eq_of_lt}
 use Rattle.std.specs.List.{AllByRecursion}
-use Rattle.std.proofs.lemmas.Bool.{and_right, cases_Bool, cases_eq, cases_lt, le-ltb, lt-leb}
+use Rattle.std.proofs.lemmas.Bool.{and_right, cases_Bool, cases_eq, cases_lt, le-ltb, lt-leb, ne_eqb}
 use Rattle.std.proofs.lemmas.List.{length-append, nil_from_length}
 use Rattle.table_cell.specs.declared.events.CellEvent.{CellEvent}
 use Rattle.table_cell.specs.declared.events.CellReply.{CellReply}
 use Rattle.table_cell.specs.Histories.{CellState, Made, Slides, begun_anew, events_of}
+use Rattle.table_cell.specs.Renumbering.{Renumbers}
 use Rattle.table_shards.specs.declared.unlocked.UnlockedTable.{UnlockedTable}
 use Rattle.table_shards.specs.declared.errors.AuditError.{AuditError}
 use Rattle.table_shards.specs.declared.errors.AuditError.TheVariants as errors
@@ -52,6 +54,30 @@ anew_drops c = omega arith
 
 pub still_dropped : (c e : CellState) (event : CellEvent) (reply : CellReply) → Made c event reply e → e.dropped + e.slid ≡ c.dropped + c.slid
 still_dropped c e event reply made = ap (λ (x : CellState). x.dropped + x.slid) made.1
+
+-- ---- renewals
+
+-- one more renewal changes the count, which starts again after 2^64 - 1
+one_more : (n : ℕ) → n < 2 ^ 64 → (n + 1) % 2 ^ 64 ≢ n
+one_more n below same = elim (cases_lt (n + 1) (2 ^ 64)) [
+  | inl less ↦ let is : (n + 1) % 2 ^ 64 ≡ n + 1 = mod-eq_of_lt less in omega (arith, same, is)
+  | inr last ↦
+      let top : n + 1 ≡ 2 ^ 64 = omega (arith, below, last) in
+      let is : (n + 1) % 2 ^ 64 ≡ 0 = ap (λ (m : ℕ). m % 2 ^ 64) top in
+      omega (arith, same, is, top)
+]
+
+pub renewal_counts : (c e : CellState) → c.renewals < 2 ^ 64 → Renumbers c (Ok tt) e → e.renewals ≢ c.renewals
+renewal_counts c e below (closed, is) same = one_more c.renewals below (sym (ap (λ (x : CellState). x.renewals) is) ∙ same)
+
+pub event_counts : (c e : CellState) (event : CellEvent) (reply : CellReply) → Made c event reply e → e.renewals ≡ c.renewals
+event_counts c e event reply (step, is) = ap (λ (x : CellState). x.renewals) is
+
+pub slide_counts : (c e : CellState) (hs : List (CellEvent × CellReply)) → Slides c hs e → e.renewals ≡ c.renewals
+slide_counts c e hs (given, held, is, batches) = ap (λ (x : CellState). x.renewals) is
+
+pub anew_counts : (c : CellState) → (begun_anew c).renewals ≡ c.renewals
+anew_counts c = refl
 
 -- ---- forgotten receipts
 
@@ -101,7 +127,13 @@ found_dropped u seats r audits present lost =
     found_wrong u seats r audits present (one_so (λ (t : UnlockedTable). t.began < t.cell.dropped + t.cell.slid) (λ t. IsRight seats t → ⊥)
     (λ t less right.
     let beyond : nat_le (t.cell.dropped + t.cell.slid) t.began ≡ false = lt-leb (t.cell.dropped + t.cell.slid) t.began less in
-    true≢false (sym right.0 ∙ and_right (id_of t.cell == t.table) (nat_le (t.cell.dropped + t.cell.slid) t.began) beyond)) u.tables lost)
+    true≢false (sym right.0 ∙ ap (λ (b : Bool). b && t.cell.renewals == t.renewals) (and_right (id_of t.cell == t.table) (nat_le (t.cell.dropped + t.cell.slid) t.began) beyond))) u.tables lost)
+
+pub found_renewed : (u : UnlockedState) (seats : List SeatState) (r : Option AuditError) → Audits u seats r → AreSeats u.seats seats → OneOf (λ t. t.cell.renewals ≢ t.renewals) u.tables
+    → (table seat : ℕ) × (r ≡ Some (errors.Mismatch table seat))
+found_renewed u seats r audits present renewed =
+    found_wrong u seats r audits present (one_so (λ (t : UnlockedTable). t.cell.renewals ≢ t.renewals) (λ t. IsRight seats t → ⊥)
+    (λ t other right. true≢false (sym right.0 ∙ and_right (id_of t.cell == t.table && nat_le (t.cell.dropped + t.cell.slid) t.began) (t.cell.renewals == t.renewals) (ne_eqb t.cell.renewals t.renewals other))) u.tables renewed)
 
 pub found_apart : (u : UnlockedState) (seats : List SeatState) (r : Option AuditError) → Audits u seats r → AreSeats u.seats seats → OneOf (λ t. Agree t.cell t.began seats → ⊥) u.tables
     → (table seat : ℕ) × (r ≡ Some (errors.Mismatch table seat))

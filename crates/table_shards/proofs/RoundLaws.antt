@@ -28,10 +28,10 @@ pub map_append : {A B : Type 0} (f : A → B) (xs ys : List A) → map f (xs ++ 
 map_append f [] ys = refl
 map_append f (x ∷ xs) ys = ap (λ zs. f x ∷ zs) (map_append f xs ys)
 
-pub one_unlocked : (ts : List UnlockedTable) (t : UnlockedTable) (c : CellState) (taken : List CellState) → table_rounds ts ≡ map begun taken → (t.table, t.began) ≡ begun c
+pub one_unlocked : (ts : List UnlockedTable) (t : UnlockedTable) (c : CellState) (taken : List CellState) → table_rounds ts ≡ map begun taken → (t.table, t.began, t.renewals) ≡ begun c
     → table_rounds (ts ++ t ∷ []) ≡ map begun (taken ++ c ∷ [])
 one_unlocked ts t c taken so same =
-    map_append (λ (x : UnlockedTable). (x.table, x.began)) ts (t ∷ [])
-    ∙ ap (λ (xs : List (ℕ × ℕ)). xs ++ (t.table, t.began) ∷ []) so
-    ∙ ap (λ (x : ℕ × ℕ). map begun taken ++ x ∷ []) same
+    map_append (λ (x : UnlockedTable). (x.table, x.began, x.renewals)) ts (t ∷ [])
+    ∙ ap (λ (xs : List (ℕ × ℕ × ℕ)). xs ++ (t.table, t.began, t.renewals) ∷ []) so
+    ∙ ap (λ (x : ℕ × ℕ × ℕ). map begun taken ++ x ∷ []) same
     ∙ sym (map_append begun taken (c ∷ []))

@@ -11,7 +11,7 @@ use Rattle.table_shards.specs.Rounds.{RoundState}
 use Rattle.table_shards.specs.Agreement.{Agree, Compares, OneOf, id_of}
 
 -- tables taken out of their locks: how many seats were made with them, and for each table its id, how many events it
--- had when the round began, and its cell
+-- had and how often its rows had got new numbers when the round began, and its cell
 pub record UnlockedState : Type 0 where
   pub seats : ℕ
   pub tables : List UnlockedTable
@@ -21,9 +21,10 @@ pub record AuditState : Type 0 where
   pub unlocked : UnlockedState
   pub seats : List SeatState
 
--- the cell is the table's own, and still has all events of the round, which neither a checkpoint nor a slide has dropped
+-- the cell is the table's own, it still has all events of the round, which neither a checkpoint nor a slide has dropped, and its
+-- rows got no new numbers in the round
 abbrev pub is_its_own : UnlockedTable → Bool
-is_its_own t = id_of t.cell == t.table && nat_le (t.cell.dropped + t.cell.slid) t.began
+is_its_own t = id_of t.cell == t.table && nat_le (t.cell.dropped + t.cell.slid) t.began && t.cell.renewals == t.renewals
 
 -- the state is the replay of the history, and each kept batch is what was unacknowledged at its place
 abbrev pub IsLegal : CellState → Type 0
@@ -33,8 +34,8 @@ IsLegal c = IsSoundCell c × Kept c
 abbrev pub IsRight : List SeatState → UnlockedTable → Type 0
 IsRight seats t = (is_its_own t ≡ true) × IsLegal t.cell × Agree t.cell t.began seats
 
--- what is wrong with a table: nothing; or a seat, which is 0 if the cell isn't the table's or has dropped events of the
--- round, and otherwise what the comparison returns
+-- what is wrong with a table: nothing; or a seat, which is 0 if the cell isn't the table's, has dropped events of the
+-- round or got new numbers in it, and otherwise what the comparison returns
 abbrev pub Finds : List SeatState → UnlockedTable → Option ℕ → Type 0
 Finds seats t None = IsRight seats t
 Finds seats t (Some seat) = ((is_its_own t ≡ false) × (seat ≡ 0)) ⊎ ((is_its_own t ≡ true) × Compares t.cell t.began seats (Some seat))
@@ -54,9 +55,9 @@ Faults seats ts None = AllByRecursion (IsRight seats) ts
 Faults seats ts (Some fault) =
     OneOf (λ t. (t.table ≡ fault.0) × Finds seats t (Some fault.1)) ts × AllByRecursion (λ t. t.table < fault.0 → IsRight seats t) ts
 
--- the id of each table, and how many events it had when the round began
-abbrev pub table_rounds : List UnlockedTable → List (ℕ × ℕ)
-table_rounds ts = map (λ t. (t.table, t.began)) ts
+-- the id of each table, and how many events it had and how often its rows had got new numbers when the round began
+abbrev pub table_rounds : List UnlockedTable → List (ℕ × ℕ × ℕ)
+table_rounds ts = map (λ t. (t.table, t.began, t.renewals)) ts
 
 -- the round of these tables
 abbrev pub round_of_unlocked : UnlockedState → RoundState

@@ -9,14 +9,15 @@ pub record ShardsState : Type 0 where
   pub seats : ℕ
   pub cells : List CellState
 
--- how many seats a round has, and for each of its tables the id and how many events the table had when the round began
+-- how many seats a round has, and for each of its tables the id, and how many events the table had and how often its rows had
+-- got new numbers when the round began
 pub record RoundState : Type 0 where
   pub seats : ℕ
-  pub tables : List (ℕ × ℕ)
+  pub tables : List (ℕ × ℕ × ℕ)
 
--- a table's id, and how many events it has when a round begins
-abbrev pub begun : CellState → ℕ × ℕ
-begun c = (id_of c, events_of c)
+-- a table's id, and how many events it has and how often its rows got new numbers when a round begins
+abbrev pub begun : CellState → ℕ × ℕ × ℕ
+begun c = (id_of c, events_of c, c.renewals)
 
 -- the round that begins with these tables
 abbrev pub round_of_shards : ShardsState → RoundState

@@ -132,8 +132,8 @@ pub fn slide(
     (seat, result)
 }
 
-/// Calls `TableCell::renumber`. If it drops an event of the round, an audit of the round then fails. Makes no event, and
-/// returns the seat as it was.
+/// Calls `TableCell::renumber`, which the table counts: an audit of the round then fails. Makes no event, and returns the
+/// seat as it was.
 pub fn renumber(
     locked: &mut Locked,
     seat: Seat,

@@ -1,7 +1,8 @@
 //! Laws of the definitions, whatever the program does.
 
-ghost use Rattle.std.specs.Prelude.{◌≡◌, ◌≢◌, ◌≤◌, ◌<◌, ◌+◌, ◌-◌, ◌∷◌, ◌++◌, [], ℕ, List, Option, Some, drop, length, sum_by};
+ghost use Rattle.std.specs.Prelude.{◌≡◌, ◌≢◌, ◌≤◌, ◌<◌, ◌+◌, ◌-◌, ◌^◌, ◌∷◌, ◌++◌, [], ℕ, List, Ok, Option, Some, drop, length, sum_by};
 ghost use Rattle.table_cell.specs.Histories.{CellState, Made, Slides, begun_anew, events_of};
+ghost use Rattle.table_cell.specs.Renumbering.{Renumbers};
 ghost use Rattle.table_cell.specs.declared.events.CellEvent.{CellEvent};
 ghost use Rattle.table_cell.specs.declared.events.CellReply.{CellReply};
 ghost use Rattle.table_shards.specs.declared.answers.Answered.{Answered};
@@ -69,6 +70,14 @@ pub fn dropped_events_are_missed()
         e.dropped + e.slid ≡ c.dropped + c.slid }
 {}
 
+/// A renewal of a table's numbers changes how many it counts, and no event, slide or history that begins anew does.
+pub fn renewals_are_counted()
+    ensures renewed { (c e : CellState) → c.renewals < 2 ^ 64 → Renumbers c (Ok tt) e → e.renewals ≢ c.renewals }
+    ensures event { (c e : CellState) (event : CellEvent) (reply : CellReply) → Made c event reply e → e.renewals ≡ c.renewals }
+    ensures slide { (c e : CellState) (hs : List (CellEvent × CellReply)) → Slides c hs e → e.renewals ≡ c.renewals }
+    ensures anew { (c : CellState) → (begun_anew c).renewals ≡ c.renewals }
+{}
+
 /// Once a seat has forgotten receipts of a table with which all seats agreed, they no longer agree with it, also if each further
 /// event adds a receipt.
 pub fn forgotten_receipts_are_missed()
@@ -78,11 +87,13 @@ pub fn forgotten_receipts_are_missed()
         Agree e began seats → ⊥ }
 {}
 
-/// An audit to which all seats come answers `Mismatch` if some table has dropped events of the round, and if receipts don't agree
-/// with some table.
+/// An audit to which all seats come answers `Mismatch` if some table has dropped events of the round, if the rows of some table
+/// got new numbers in the round, and if receipts don't agree with some table.
 pub fn an_audit_finds_what_is_missed()
     ensures dropped { (u : UnlockedState) (seats : List SeatState) (r : Option AuditError) → Audits u seats r → AreSeats u.seats seats →
         OneOf (λ t. t.began < t.cell.dropped + t.cell.slid) u.tables → (table seat : ℕ) × (r ≡ Some (errors.Mismatch table seat)) }
+    ensures renewed { (u : UnlockedState) (seats : List SeatState) (r : Option AuditError) → Audits u seats r → AreSeats u.seats seats →
+        OneOf (λ t. t.cell.renewals ≢ t.renewals) u.tables → (table seat : ℕ) × (r ≡ Some (errors.Mismatch table seat)) }
     ensures apart { (u : UnlockedState) (seats : List SeatState) (r : Option AuditError) → Audits u seats r → AreSeats u.seats seats →
         OneOf (λ t. Agree t.cell t.began seats → ⊥) u.tables → (table seat : ℕ) × (r ≡ Some (errors.Mismatch table seat)) }
 {}

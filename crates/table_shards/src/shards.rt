@@ -16,12 +16,14 @@ use std::sync::Mutex;
 use table_cell::TableCell;
 use table_types::Memory;
 
-/// A table under its lock, with its id and how many events it had when the round began. Contracts see the table as it was when it was
+/// A table under its lock, with its id, and how many events it had and how often its rows had got new numbers when the round
+/// began. Contracts see the table as it was when it was
 /// put under the lock, since no contract of a lock says what it holds.
 #[derive(Drop)]
 pub(crate) struct Shard {
     table: u64,
     began: u64,
+    renewals: u64,
     given: Snapshot<TableCell>,
     cell: Mutex<Locked>,
 }
@@ -35,7 +37,7 @@ impl Model for Shard {
 
     ghost view = { λ s. s.given.value };
 
-    ghost invariant = { λ s. (s.table ≡ id_of s.given.value) × (s.began ≡ events_of s.given.value) };
+    ghost invariant = { λ s. (s.table ≡ id_of s.given.value) × (s.began ≡ events_of s.given.value) × (s.renewals ≡ s.given.value.renewals) };
 }
 
 /// Tables, each under its own lock, which many threads change from their seats.
@@ -63,6 +65,7 @@ pub(crate) fn put_under_lock(cell: TableCell) -> Shard
     Shard {
         table: cell.definition().id(),
         began: cell.events(),
+        renewals: cell.renewals(),
         given: Snapshot::of(&cell),
         cell: Mutex::new(Locked { cell }),
     }
@@ -123,6 +126,7 @@ impl Shards {
             tables.push_reserved(UnlockedTable {
                 table: shard.table,
                 began: shard.began,
+                renewals: shard.renewals,
                 cell: shard.cell.into_inner().cell,
             });
         }

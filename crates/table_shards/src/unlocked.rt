@@ -19,6 +19,8 @@ pub struct UnlockedTable {
     pub table: u64,
     /// How many events it had when the round began.
     pub began: u64,
+    /// How often its rows had got new numbers when the round began.
+    pub renewals: u64,
     /// The contents of its lock.
     pub cell: TableCell,
 }
@@ -56,12 +58,14 @@ impl Model for Audit {
     ghost invariant = { λ a. Audits a.unlocked a.seats.items None };
 }
 
-/// Returns whether the cell is the table's own, and still has all events of the round.
+/// Returns whether the cell is the table's own, still has all events of the round, and got no new numbers in it.
 fn is_its_own(table: &UnlockedTable) -> bool
     ensures own { result ≡ is_its_own table.now }
     ensures legal { IsTrue result → IsLegal table.now.cell }
 {
-    table.cell.definition().id() == table.table && table.cell.dropped() <= table.began
+    table.cell.definition().id() == table.table
+        && table.cell.dropped() <= table.began
+        && table.cell.renewals() == table.renewals
 }
 
 /// Returns what is wrong with a table, or `None`: the seat that `AuditError::Mismatch` names.
@@ -146,24 +150,29 @@ impl Unlocked {
     }
 
     /// Audits the round: the seats must be those that were made with the tables, each once, and each event of each
-    /// table, from where the round began to the table's number of events, must be the receipt of exactly one seat. If the
-    /// audit fails, returns the tables and the seats with the error. Doesn't allocate. Takes time linear in the
+    /// table, from where the round began to the table's number of events, must be the receipt of exactly one seat. No table
+    /// may have dropped an event of the round, or have got new numbers in it. If the audit fails, returns the tables and the seats with the error. Doesn't allocate. Takes time linear in the
     /// number of events and receipts.
     pub fn audit(self, seats: Vec<Seat>) -> Result<Audit, (AuditError, Unlocked, Vec<Seat>)>
         ensures audited { IfOk result (λ audit. (audit ≡ record { unlocked = self; seats = seats.items }) × Audits self seats.items None) }
         ensures refused { IfErr result (λ back. Audits self seats.items (Some back.0) × (back.1 ≡ self) × (back.2 ≡ seats)) }
     {
         match self.error(seats.as_slice()) {
-            None => Ok(Audit {
-                unlocked: self,
-                seats,
-            }),
+            None => Ok(Audit::of(self, seats)),
             Some(error) => Err((error, self, seats)),
         }
     }
 }
 
 impl Audit {
+    /// Joins tables and seats of which an audit found nothing wrong.
+    fn of(unlocked: Unlocked, seats: Vec<Seat>) -> Audit
+        requires { Audits unlocked seats.items None }
+        ensures { result ≡ record { unlocked = unlocked; seats = seats.items } }
+    {
+        Audit { unlocked, seats }
+    }
+
     /// Returns the tables.
     pub fn tables(&self) -> &[UnlockedTable]
         ensures tables { result.now ≡ self.now.unlocked.tables }

@@ -94,10 +94,8 @@ pub fn track_with_reply(
 {
     let number = seat.book.number;
     let room = begin(locked, &mut seat.book, table)?;
-    let (reply, entry) = locked
-        .cell
-        .track_with_reply(number, key, change, now)
-        .map_err(ShardError::Cell)?;
+    let tracked = locked.cell.track_with_reply(number, key, change, now);
+    let (reply, entry) = tracked.map_err(ShardError::Cell)?;
     finish(locked, &mut seat.book, room, table, entry);
     Ok(reply)
 }
