@@ -1,5 +1,5 @@
 -- What the table of a round counts.
-use Rattle.std.proofs.Common.{◌≡◌, ℕ, suc, ◌+◌, ◌-◌, ◌*◌, ◌^◌, ◌<◌, ◌≤◌, ◌==◌, ◌⊎◌, Bool, true, false, not, cond, if◌then◌else◌, nat_lt, nat_le, List, [], ◌∷◌, ◌++◌, drop, length, get_or, take, Option, Some, None, MatchBool, option_and_then, sum_by, count_by, refl, sym, ap, ◌∙◌, subst, arith, inl, inr, eq-eqb, ne_eqb, lt-ltb, leb-true, length-append, true≢false}
+use Rattle.std.proofs.Common.{◌≡◌, ℕ, suc, ◌+◌, ◌-◌, ◌*◌, ◌^◌, ◌<◌, ◌≤◌, ◌==◌, ◌&&◌, ◌⊎◌, Bool, true, false, not, cond, if◌then◌else◌, nat_lt, nat_le, List, [], ◌∷◌, ◌++◌, drop, length, get_or, take, Option, Some, None, MatchBool, option_and_then, sum_by, count_by, refl, sym, ap, ◌∙◌, subst, arith, inl, inr, eq-eqb, ne_eqb, lt-ltb, leb-true, length-append, true≢false}
 use Rattle.std.specs.List.{AllByRecursion}
 use Rattle.std.specs.Io.KnownBytes.{Appends}
 use Rattle.std.specs.Ordering.{is_eq}
@@ -301,7 +301,7 @@ begun_count key = record { definition = refl; size = refl; rows = omega arith; b
 table_counts : (threads tracks key : ℕ) (seats : List SeatState) (t : UnlockedTable) → key ≤ threads → 1 ≤ tracks → count_by (has_number key) seats ≡ 1 → AllByRecursion (HasDoneItsPart threads tracks) seats
     → t.began ≡ 0 → IsRight seats t → IsRoundTable t.cell → HasCount key tracks t.cell
 table_counts threads tracks key seats t low some once done began (own, legal, agree) (definition, base) =
-    let kept : t.cell.dropped + t.cell.slid ≤ t.began = leb-true (t.cell.dropped + t.cell.slid) t.began (and_parts (id_of t.cell == t.table) (nat_le (t.cell.dropped + t.cell.slid) t.began) own).1 in
+    let kept : t.cell.dropped + t.cell.slid ≤ t.began = leb-true (t.cell.dropped + t.cell.slid) t.began (and_parts (id_of t.cell == t.table) (nat_le (t.cell.dropped + t.cell.slid) t.began) (and_parts (id_of t.cell == t.table && nat_le (t.cell.dropped + t.cell.slid) t.began) (t.cell.renewals == t.renewals) own).0).1 in
     let whole : t.began ≡ t.cell.dropped = omega (arith, kept, began) in
     let here : Agree t.cell t.cell.dropped seats = subst (λ (n : ℕ). Agree t.cell n seats) whole agree in
     let receipts : all_receipts (id_of t.cell) seats ≡ all_receipts 1 seats = ap (λ (d : Definition). all_receipts d.id seats) definition in
@@ -315,13 +315,13 @@ table_counts threads tracks key seats t low some once done began (own, legal, ag
     found t.cell.state.rows key tracks (row_at (keys.Int key) t.cell.state.rows) refl some (subst (λ (n : ℕ). Counts n (row_at (keys.Int key) t.cell.state.rows)) all counts)
 
 tables_count : (threads tracks key : ℕ) (seats : List SeatState) (ts : List UnlockedTable) → key ≤ threads → 1 ≤ tracks → count_by (has_number key) seats ≡ 1 → AllByRecursion (HasDoneItsPart threads tracks) seats
-    → table_rounds ts ≡ (1, 0) ∷ [] → AllByRecursion (IsRight seats) ts → AllByRecursion (λ (t : UnlockedTable). IsRoundTable t.cell) ts → AllByRecursion (λ (t : UnlockedTable). HasCount key tracks t.cell) ts
+    → table_rounds ts ≡ (1, 0, 0) ∷ [] → AllByRecursion (IsRight seats) ts → AllByRecursion (λ (t : UnlockedTable). IsRoundTable t.cell) ts → AllByRecursion (λ (t : UnlockedTable). HasCount key tracks t.cell) ts
 tables_count threads tracks key seats [] low some once done rounds right are = tt
 tables_count threads tracks key seats (t ∷ []) low some once done rounds (right, others) (is, rest) =
-    let began : t.began ≡ 0 = ap (λ (l : List (ℕ × ℕ)). (get_or l 0 (1, 0)).1) rounds in
+    let began : t.began ≡ 0 = ap (λ (l : List (ℕ × ℕ × ℕ)). (get_or l 0 (1, 0, 0)).1) rounds in
     (table_counts threads tracks key seats t low some once done began right is, tt)
 tables_count threads tracks key seats (t ∷ u ∷ us) low some once done rounds right are =
-    let lengths : suc (suc (length (table_rounds us))) ≡ 1 = ap (λ (l : List (ℕ × ℕ)). length l) rounds in
+    let lengths : suc (suc (length (table_rounds us))) ≡ 1 = ap (λ (l : List (ℕ × ℕ × ℕ)). length l) rounds in
     absurd (omega (arith, lengths))
 
 first_counts : (a : AuditState) (threads tracks key : ℕ) → IsAudited threads tracks a → IsFirst threads a → 1 ≤ key → key ≤ threads → 1 ≤ tracks → AllByRecursion (λ (t : UnlockedTable). HasCount key tracks t.cell) a.unlocked.tables

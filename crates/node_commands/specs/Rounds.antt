@@ -49,10 +49,11 @@ IsAudited threads tracks a = Audits a.unlocked a.seats None × AllByRecursion (H
 -- the new table of a round, and the round made all events of the table.
 abbrev pub IsFirst : ℕ → AuditState → Type 0
 IsFirst threads a =
-    (round_of_unlocked a.unlocked ≡ record { seats = threads + 2; tables = (1, 0) ∷ [] }) × AllByRecursion (λ t. IsRoundTable t.cell) a.unlocked.tables
+    (round_of_unlocked a.unlocked ≡ record { seats = threads + 2; tables = (1, 0, 0) ∷ [] }) × AllByRecursion (λ t. IsRoundTable t.cell) a.unlocked.tables
 
 -- The round comes after the one with the audit `last`, in which no batch was out. It has as many seats, and tables with the
--- ids and numbers of events that a checkpoint leaves: it made all events of each table but those that the table had by then.
+-- ids and the numbers of events and renewals that a checkpoint leaves: it made all events of each table but those that the table had
+-- by then.
 -- After it, the key of each thread counts `count`.
 abbrev pub GoesOn : ℕ → ℕ → AuditState → AuditState → Type 0
 GoesOn threads count last a =

@@ -1,7 +1,7 @@
 -- When a table gets new numbers.
 use Rattle.std.specs.Prelude.{◌≡◌, ◌⊎◌, Bool, true, false, [], nat_le}
 use Rattle.table_cell.specs.Histories.{CellState, begun_anew}
-use Rattle.table_cell.specs.Renumbering.{renumbered}
+use Rattle.table_cell.specs.Renumbering.{renewed}
 
 -- the next number of the table is 2^31 or more
 abbrev pub is_spent : CellState → Bool
@@ -13,4 +13,4 @@ abbrev pub Renews : CellState → Bool → CellState → Type 0
 Renews c true e = (is_spent c ≡ true) × (e ≡ c)
 Renews c false e =
     ((is_spent c ≡ false) × (e ≡ c))
-    ⊎ ((is_spent c ≡ true) × (c.state.sessions ≡ []) × (e ≡ begun_anew (record c { state = renumbered c.state })))
+    ⊎ ((is_spent c ≡ true) × (c.state.sessions ≡ []) × (e ≡ begun_anew (renewed c)))
