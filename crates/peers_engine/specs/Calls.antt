@@ -7,6 +7,7 @@ use Rattle.std.specs.Prelude.{◌≡◌, ◌⊎◌, ℕ, max, List, Result, Ok, 
 use Rattle.table_types.specs.declared.update.Update.{Update}
 use Rattle.table_types.specs.declared.copies.CopyKind.{CopyKind}
 use Rattle.table_types.specs.declared.copies.Settled.{Settled}
+use Rattle.table_types.specs.declared.version.Version.TheVariants as versions
 use Rattle.table_cell.specs.Histories.{Acknowledges, CellState, Closes, Copies, IsSoundCell, Kept, Learns, Opens, events_of}
 use Rattle.table_cell.specs.declared.errors.AckError.{AckError}
 use Rattle.table_cell.specs.declared.errors.AckError.TheVariants as ack_errors
@@ -38,11 +39,15 @@ CallsLearnOn c n now s u answer t =
     × Notes (λ mid. Holds (λ x r y. Learns x n u now r y) (λ reply. receipted u.table c s (events.Learn n u now) (replies.Learn reply)) u.table c s answer e mid)
     u.table n (events_of c) (if_full u.number now answer) t
 
+-- the most updates that a turn copies at once
+abbrev pub most_copied : ℕ
+most_copied = 512
+
 abbrev pub CallsCopyOn : CellState → ℕ → ℕ → SeatState → ℕ → CopyKind → Result (List Update) (ShardError CopyError) → SeatState → Type 0
 CallsCopyOn c n now s table kind answer t =
     IsSoundTable c × (e : CellState)
-    × Notes (λ mid. Holds (λ x r y. Copies x n kind 512 now r y) (λ batch. receipted table c s (events.Copy n kind 512 now) (replies.Copy batch)) table c s answer e mid)
-    table n (events_of c) (if_nothing kind 512 now answer) t
+    × Notes (λ mid. Holds (λ x r y. Copies x n kind most_copied now r y) (λ batch. receipted table c s (events.Copy n kind most_copied now) (replies.Copy batch)) table c s answer e mid)
+    table n (events_of c) (if_nothing kind most_copied now answer) t
 
 -- the same, of some cell
 abbrev pub CallsCopy : ℕ → ℕ → SeatState → ℕ → CopyKind → Result (List Update) (ShardError CopyError) → SeatState → Type 0
@@ -54,10 +59,11 @@ CallsAck n s table number answer t =
     × Notes (λ mid. Holds (λ x r y. Acknowledges x n number r y) (λ settled. receipted table c s (events.Ack n number) (replies.Ack settled)) table c s answer e mid)
     table n (events_of c) (if_ahead number answer) t
 
+-- the session is opened with version 2.1
 abbrev pub CallsOpen : ℕ → SeatState → ℕ → Result (Unit {0}) (ShardError OpenError) → SeatState → Type 0
 CallsOpen n s table answer t =
     (c : CellState) × IsSoundTable c × (e : CellState)
-    × Holds (λ x r y. Opens x n r y) (λ done. receipted table c s (events.Open n) replies.Open) table c s answer e t
+    × Holds (λ x r y. Opens x n versions.V21 r y) (λ done. receipted table c s (events.Open n versions.V21) replies.Open) table c s answer e t
 
 abbrev pub CallsClose : ℕ → SeatState → ℕ → Result (Unit {0}) (ShardError CloseError) → SeatState → Type 0
 CallsClose n s table answer t =

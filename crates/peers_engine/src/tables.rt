@@ -12,7 +12,10 @@ use std::sync::{MutexGuard, Wait};
 use table_cell::{AckError, CloseError, CopyError, LearnError, OpenError};
 use table_shards::held::{lent, noted};
 use table_shards::{Locked, Seat, ShardError};
-use table_types::{Batch, CopyKind, Moment, Update};
+use table_types::{Batch, CopyKind, Moment, Update, Version};
+
+/// The most updates that a turn copies at once. A batch may have more, but nothing is read until its lesson is written.
+const MOST_COPIED: usize = 512;
 
 /// Waits for the lock of `table` and takes it. Nothing else in this crate takes a lock, and no caller passes this one
 /// on, so each is held for one call on a table.
@@ -150,7 +153,7 @@ fn copy_at(
     ensures stays { OnErr result (seat.new ≡ seat.old) }
 {
     note_sound(locked);
-    match noted::copy(locked, seat, table, number, kind, Batch::MOST, now) {
+    match noted::copy(locked, seat, table, number, kind, MOST_COPIED, now) {
         Ok(batch) => Ok(Event::Copied(table, batch)),
         Err(ShardError::Cell(CopyError::Nothing)) => Ok(Event::Nothing(table)),
         Err(error) => Err(refused(error, CopyError::Memory)),
@@ -242,7 +245,7 @@ fn close<H: Wait, G>(
     }
 }
 
-/// Opens the session in a table.
+/// Opens the session in a table, with version 2.1, which every session speaks.
 fn open<H: Wait, G>(context: &Context<H, G>, seat: &mut Seat, table: u64) -> Result<(), EngineError>
     ensures seat { seat.new.number ≡ seat.old.number }
     ensures opened { OnOk result (CallsOpen context.now.number seat.old table (Ok tt) seat.new) }
@@ -252,7 +255,7 @@ fn open<H: Wait, G>(context: &Context<H, G>, seat: &mut Seat, table: u64) -> Res
     let mut guard = lock(context, table)?;
     let locked: &mut Locked = &mut guard;
     note_sound(locked);
-    match lent::open_session(locked, seat, table, context.number) {
+    match lent::open_session(locked, seat, table, context.number, Version::V21) {
         Ok(()) => Ok(()),
         Err(error) => Err(refused(error, OpenError::Memory)),
     }
