@@ -82,10 +82,10 @@ line_pushed P [] x all is = (is, tt)
 line_pushed P (y ∷ xs) x (first, all) is = (first, line_pushed P xs x all is)
 
 -- one more table
-pub table_pushed : (s e : WorldScript) (t : ScriptTable) → e.tables.items ≡ s.tables.items ++ t ∷ [] → e.sessions ≡ s.sessions
+pub table_pushed : (s e : WorldScript) (t : ScriptTable) → e.tables.items ≡ s.tables.items ++ t ∷ [] → e.versions ≡ s.versions
     → length e.tables.items ≤ 64 → e.lines.items ≡ [] → IsScriptTable t → has_like t.definition (definitions s.tables.items) ≡ false
     → IsWorldScriptSoFar s → IsWorldScriptSoFar e
-table_pushed s e t pushed sessions most none is unlike sound =
+table_pushed s e t pushed versions most none is unlike sound =
     let ds = definitions s.tables.items in
     let all : definitions e.tables.items ≡ ds ++ t.definition ∷ [] = ap definitions pushed ∙ definitions_pushed s.tables.items t in
     record {
@@ -93,15 +93,15 @@ table_pushed s e t pushed sessions most none is unlike sound =
       ids = subst (λ x. repeats_id x ≡ false) (sym all) (ids_pushed ds t.definition unlike sound.ids);
       names = subst (λ x. repeats_name x ≡ false) (sym all) (names_pushed ds t.definition unlike sound.names);
       tables = subst (AllByRecursion IsScriptTable) (sym pushed) (line_pushed IsScriptTable s.tables.items t sound.tables is);
-      sessions = subst (λ n. IfSome n (λ k. (1 ≤ k) × (k ≤ 16))) (sym sessions) sound.sessions;
+      versions = subst (λ n. IfSome n (λ vs. (1 ≤ length vs.items) × (length vs.items ≤ 16))) (sym versions) sound.versions;
       lines = no_lines (IsAnswerableLine (session_count e) (definitions e.tables.items)) e.lines.items none;
     }
 
 -- other settings of a table
-pub table_set : (s e : WorldScript) (i : ℕ) (old t : ScriptTable) → e.tables.items ≡ set s.tables.items i t → e.sessions ≡ s.sessions
+pub table_set : (s e : WorldScript) (i : ℕ) (old t : ScriptTable) → e.tables.items ≡ set s.tables.items i t → e.versions ≡ s.versions
     → old ≡ get_or s.tables.items i old → t.definition ≡ old.definition → (IsScriptTable old → IsScriptTable t)
     → e.lines.items ≡ [] → IsWorldScriptSoFar s → IsWorldScriptSoFar e
-table_set s e i old t changed sessions is same keeps none sound =
+table_set s e i old t changed versions is same keeps none sound =
     let all : definitions e.tables.items ≡ definitions s.tables.items
     = ap definitions changed ∙ definitions_set s.tables.items i old t is same in
     let most : length e.tables.items ≡ length s.tables.items = ap length changed ∙ length-set s.tables.items i t in
@@ -110,22 +110,22 @@ table_set s e i old t changed sessions is same keeps none sound =
       ids = subst (λ x. repeats_id x ≡ false) (sym all) sound.ids;
       names = subst (λ x. repeats_name x ≡ false) (sym all) sound.names;
       tables = subst (AllByRecursion IsScriptTable) (sym changed) (all_set s.tables.items i old t sound.tables is keeps);
-      sessions = subst (λ n. IfSome n (λ k. (1 ≤ k) × (k ≤ 16))) (sym sessions) sound.sessions;
+      versions = subst (λ n. IfSome n (λ vs. (1 ≤ length vs.items) × (length vs.items ≤ 16))) (sym versions) sound.versions;
       lines = no_lines (IsAnswerableLine (session_count e) (definitions e.tables.items)) e.lines.items none;
     }
 
 -- one more table, unless it is refused
-pub table_read : {E : Type 0} (s e : WorldScript) (t : ScriptTable) (r : Result (Unit {0}) E) → e.sessions ≡ s.sessions
+pub table_read : {E : Type 0} (s e : WorldScript) (t : ScriptTable) (r : Result (Unit {0}) E) → e.versions ≡ s.versions
     → OnOk r ((e.tables.items ≡ s.tables.items ++ t ∷ []) × (vec_len e.tables ≤ 64)) → OnErr r (e.tables.items ≡ s.tables.items)
     → IsScriptTable t → has_like t.definition (definitions s.tables.items) ≡ false → e.lines.items ≡ [] → IsWorldScriptSoFar s
     → IsWorldScriptSoFar e
-table_read s e t (Ok done) sessions (pushed, most) stays is unlike none sound =
-    table_pushed s e t pushed sessions (omega (arith, most, e.tables.ok.0)) none is unlike sound
-table_read s e t (Err error) sessions pushed stays is unlike none sound = record {
+table_read s e t (Ok done) versions (pushed, most) stays is unlike none sound =
+    table_pushed s e t pushed versions (omega (arith, most, e.tables.ok.0)) none is unlike sound
+table_read s e t (Err error) versions pushed stays is unlike none sound = record {
   most = subst (λ ts. length ts ≤ 64) (sym stays) sound.most;
   ids = subst (λ ts. repeats_id (definitions ts) ≡ false) (sym stays) sound.ids;
   names = subst (λ ts. repeats_name (definitions ts) ≡ false) (sym stays) sound.names;
   tables = subst (AllByRecursion IsScriptTable) (sym stays) sound.tables;
-  sessions = subst (λ n. IfSome n (λ k. (1 ≤ k) × (k ≤ 16))) (sym sessions) sound.sessions;
+  versions = subst (λ n. IfSome n (λ vs. (1 ≤ length vs.items) × (length vs.items ≤ 16))) (sym versions) sound.versions;
   lines = no_lines (IsAnswerableLine (session_count e) (definitions e.tables.items)) e.lines.items none;
 }

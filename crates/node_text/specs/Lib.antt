@@ -16,5 +16,6 @@ pub mod Scripts
 pub mod Updates
 pub mod Values
 pub mod Verdicts
+pub mod Versions
 pub mod Words
 pub mod Worlds

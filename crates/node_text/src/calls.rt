@@ -8,14 +8,20 @@ use crate::error::LineError;
 use crate::keys::key_of;
 use crate::numbers::{moment, number, number32};
 use crate::updates::update_with;
+use crate::versions::version_of;
 use std::alloc::Global;
-use table_types::{Change, CopyKind, Key, KeyKind, Moment, TableDef, Update};
+use table_types::{Change, CopyKind, Key, KeyKind, Moment, TableDef, Update, Version};
 
 /// A call of a script's table.
 #[derive(Debug, Drop)]
 pub enum Call {
-    /// Opens the session.
-    Open(u32),
+    /// Opens a session.
+    Open {
+        /// The session.
+        session: u32,
+        /// The version of the protocol that it speaks.
+        version: Version,
+    },
     /// Closes the session.
     Close(u32),
     /// Changes the row of a key, which may be of another kind than the table's.
@@ -89,6 +95,7 @@ pub(crate) fn call_of(
     ensures { IfOk result IsCall }
 {
     match kind {
+        b"open" => open_of(words).ok_or(LineError::Refused),
         b"track" => track_of(alloc, table, words),
         b"learn" => learn_of(alloc, table, words),
         b"copy" => copy_of(words).ok_or(LineError::Refused),
@@ -99,6 +106,22 @@ pub(crate) fn call_of(
             _ => Err(LineError::Refused),
         },
     }
+}
+
+/// Reads a call `open SESSION` or `open SESSION VERSION`, from the words after the first. The version is 2.1 without a word for
+/// it.
+fn open_of(words: &[&[u8]]) -> Option<Call>
+    ensures { IfSome result IsCall }
+{
+    let (session, version) = match words {
+        [session] => (session, Version::V21),
+        [session, version] => (session, version_of(version)?),
+        _ => return None,
+    };
+    Some(Call::Open {
+        session: number32(session)?,
+        version,
+    })
 }
 
 /// Reads a call `checkpoint`, `slide`, `renumber`, `events` or `rows`.
@@ -115,12 +138,11 @@ fn bare_call(kind: &[u8]) -> Option<Call>
     }
 }
 
-/// Reads a call `open SESSION`, `close SESSION`, `purge MOMENT` or `event PLACE`.
+/// Reads a call `close SESSION`, `purge MOMENT` or `event PLACE`.
 fn call_with_word(kind: &[u8], word: &[u8]) -> Option<Call>
     ensures { IfSome result IsCall }
 {
     match kind {
-        b"open" => Some(Call::Open(number32(word)?)),
         b"close" => Some(Call::Close(number32(word)?)),
         b"purge" => Some(Call::Purge(moment(word)?)),
         b"event" => Some(Call::Event(number(word, (1 << 63) - 1)?)),

@@ -1,6 +1,6 @@
 //! Events of a table, as a script has the calls that make them.
 ghost use Rattle.std.specs.Prelude.{◌≡◌, ◌++◌, OnOk};
-ghost use Rattle.node_text.specs.Events.{call_head, event_text, learn_text, track_text};
+ghost use Rattle.node_text.specs.Events.{call_head, event_text, learn_text, open_text, track_text};
 
 use crate::acks::push_ack;
 use crate::changes::push_change;
@@ -10,7 +10,7 @@ use crate::numbers::{push_spaced, push_word_and_number};
 use crate::updates::push_update_text;
 use std::alloc::AllocError;
 use table_cell::CellEvent;
-use table_types::{Change, Key, Moment, TableDef, Update};
+use table_types::{Change, Key, Moment, TableDef, Update, Version};
 
 /// Appends an event of a table: the line of the call that made it, without its LF. A name that isn't plain text is in
 /// hexadecimal, which a script would read as another name.
@@ -36,7 +36,7 @@ pub fn push_event(text: &mut Vec<u8>, table: &TableDef, event: &CellEvent) -> Re
             moment,
         } => push_copy(text, *session, *kind, *limit, moment.milliseconds()),
         CellEvent::Ack { session, number } => push_ack(text, u64::from(*session), *number),
-        CellEvent::Open { session } => push_word_and_number(text, "open ", u64::from(*session)),
+        CellEvent::Open { session, version } => push_open(text, *session, *version),
         CellEvent::Close { session } => {
             push_word_and_number(text, "close ", u64::from(*session))
         }
@@ -71,6 +71,17 @@ fn push_learn(
 {
     push_head(text, "learn ", session, moment.milliseconds())?;
     push_update_text(text, table, update)
+}
+
+/// Appends the call that opens a session: `open`, the session, and the version if it is 2.0.
+fn push_open(text: &mut Vec<u8>, session: u32, version: Version) -> Result<(), AllocError>
+    ensures { OnOk result (text.new.items ≡ text.old.items ++ open_text session version) }
+{
+    push_word_and_number(text, "open ", u64::from(session))?;
+    match version {
+        Version::V20 => text.extend_from_slice(b" 2.0"),
+        Version::V21 => Ok(()),
+    }
 }
 
 /// Appends `word`, which ends with its space, the seat or the session `id`, the moment in milliseconds, and a space.

@@ -27,6 +27,7 @@ mod tables;
 mod updates;
 mod values;
 mod verdicts;
+mod versions;
 mod words;
 mod world_lines;
 mod worlds;

@@ -213,7 +213,12 @@ impl WorldScript {
     fn session_named(&self, word: &[u8]) -> Option<u32>
         ensures { IfSome result (λ session. (1 ≤ session) × (session ≤ session_count self.now)) }
     {
-        number_from_one(word, self.session_count())
+        let session = number_from_one(word, u32::MAX)?;
+        if session as usize <= self.session_count() {
+            Some(session)
+        } else {
+            None
+        }
     }
 }
 

@@ -10,10 +10,11 @@ use crate::lines::{LineReader, read_lines};
 use crate::numbers::{number, number_from_one};
 use crate::script_tables::{ScriptTable, is_setting};
 use crate::tables::{are_alike, table_of};
+use crate::versions::versions_of;
 use crate::words::words_of;
 use crate::world_lines::WorldLine;
 use std::alloc::Global;
-use table_types::{Roster, TableDef};
+use table_types::{Roster, TableDef, Version};
 
 /// The most sessions of a world.
 const MOST_SESSIONS: u32 = 16;
@@ -23,8 +24,8 @@ const MOST_SESSIONS: u32 = 16;
 pub struct WorldScript {
     /// The tables in the order of their lines: 1 to 64, with distinct ids and names.
     pub tables: Vec<ScriptTable>,
-    /// The number of sessions, if a line says so: 1 to 16.
-    pub sessions: Option<u32>,
+    /// The version of each session, in order, if a line says how many there are: 1 to 16.
+    pub versions: Option<Vec<Version>>,
     /// The steps and the questions in the order of their lines. A question is about a table and a session that are there.
     pub lines: Vec<WorldLine>,
     /// Whether a line that sets something came. After it no table may come.
@@ -67,7 +68,7 @@ impl WorldScript {
     {
         WorldScript {
             tables: Vec::new(alloc),
-            sessions: None,
+            versions: None,
             lines: Vec::new(alloc),
             settings_began: false,
         }
@@ -84,7 +85,7 @@ impl WorldScript {
             return Err(LineError::Refused);
         }
         if kind == b"sessions".as_slice() || is_setting(kind) {
-            return self.read_setting(kind, words);
+            return self.read_setting(alloc, kind, words);
         }
         let line = self.line_of(alloc, kind, words)?;
         self.lines.push(line)?;
@@ -105,8 +106,9 @@ impl WorldScript {
         push_within(&mut self.tables, Roster::MOST, ScriptTable::new(table))
     }
 
-    /// Reads a line `sessions COUNT`, or one that sets something of a table, which must come before all steps and questions.
-    fn read_setting(&mut self, kind: &[u8], words: &[&[u8]]) -> Result<(), LineError>
+    /// Reads a line `sessions COUNT VERSIONS..`, or one that sets something of a table, which must come before all steps and
+    /// questions.
+    fn read_setting(&mut self, alloc: Global, kind: &[u8], words: &[&[u8]]) -> Result<(), LineError>
         ensures { IsWorldScriptSoFar self.old → IsWorldScriptSoFar self.new }
     {
         if !self.lines.is_empty() {
@@ -117,21 +119,24 @@ impl WorldScript {
             return Err(LineError::Refused);
         };
         if kind == b"sessions".as_slice() {
-            return self.read_sessions(word, words);
+            return self.read_sessions(alloc, word, words);
         }
         let index = self.index_of(word).ok_or(LineError::Refused)?;
         self.tables[index].read_setting(kind, words)
     }
 
-    /// Reads the number of sessions. No word may come after it.
-    fn read_sessions(&mut self, word: &[u8], words: &[&[u8]]) -> Result<(), LineError>
+    /// Reads the number of sessions and the version of each, in order: 2.1 for each if no word comes after the number.
+    fn read_sessions(
+        &mut self,
+        alloc: Global,
+        word: &[u8],
+        words: &[&[u8]],
+    ) -> Result<(), LineError>
         ensures { self.old.lines.items ≡ [] → IsWorldScriptSoFar self.old → IsWorldScriptSoFar self.new }
     {
-        if !words.is_empty() {
-            return Err(LineError::Refused);
-        }
-        let sessions = number_from_one(word, MOST_SESSIONS).ok_or(LineError::Refused)?;
-        set_once(&mut self.sessions, sessions)
+        let count = number_from_one(word, MOST_SESSIONS).ok_or(LineError::Refused)?;
+        let versions = versions_of(alloc, count as usize, words)?;
+        set_once(&mut self.versions, versions)
     }
 
     /// Returns the index of the table whose id `word` writes.
@@ -160,10 +165,13 @@ impl WorldScript {
     }
 
     /// Returns the number of sessions.
-    pub fn session_count(&self) -> u32
+    pub(crate) fn session_count(&self) -> usize
         ensures { result ≡ session_count self.now }
     {
-        self.sessions.unwrap_or(1)
+        match &self.versions {
+            Some(versions) => versions.len(),
+            None => 1,
+        }
     }
 }
 
