@@ -14,7 +14,7 @@ use std::time::Clock;
 use std::{io, thread};
 use table_shards::held::lent;
 use table_shards::{Seat, Shards};
-use table_types::{CopyKind, Moment};
+use table_types::{CopyKind, Moment, Version};
 use tests_play_tables::{comes, track};
 
 /// A gate that holds a session at `stage` until another thread releases it, at most about 10 s.
@@ -185,7 +185,7 @@ fn reopens<R: Wait>(rt: &R, shards: &Shards, seat: &mut Option<Seat>) -> Option<
     let seat = seat.as_mut()?;
     let mut locked = shards.cell(1)?.lock(rt);
     let closed = lent::close_session(&mut locked, seat, 1, SESSION);
-    let opened = lent::open_session(&mut locked, seat, 1, SESSION);
+    let opened = lent::open_session(&mut locked, seat, 1, SESSION, Version::V21);
     Some(closed.is_ok() && opened.is_ok())
 }
 

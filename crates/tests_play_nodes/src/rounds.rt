@@ -15,6 +15,7 @@ use std::thread::Threads;
 use std::time::{Clock, Duration};
 use table_shards::held::lent;
 use table_shards::{Seat, Shards};
+use table_types::Version;
 use tests_play_data::parts::{T1, alone};
 use tests_play_tables::{TwoSeats, comes, track};
 use text_commands::Ending;
@@ -23,7 +24,7 @@ use text_commands::Ending;
 fn opens<R: Wait>(rt: &R, shards: &Shards, seat: &mut Option<Seat>) -> Option<bool> {
     let seat = seat.as_mut()?;
     let mut locked = shards.cell(1)?.lock(rt);
-    let answer = lent::open_session(&mut locked, seat, 1, SESSION);
+    let answer = lent::open_session(&mut locked, seat, 1, SESSION, Version::V21);
     Some(answer.is_ok())
 }
 

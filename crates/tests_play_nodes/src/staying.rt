@@ -13,7 +13,7 @@ use std::sync::Wait;
 use table_cell::TableCell;
 use table_shards::held::lent;
 use table_shards::{Seat, Shards};
-use table_types::{Change, DataType, Key, Moment, Row};
+use table_types::{Change, DataType, Key, Moment, Row, Version};
 
 /// A side of a session that stays: the session at work, its tables, and a seat from which keys are tracked.
 #[derive(Drop)]
@@ -180,7 +180,7 @@ impl Stayer {
         if renews {
             lent::renumber(&mut locked, seat, 1).ok()?;
         }
-        lent::open_session(&mut locked, seat, 1, 1).ok()?;
+        lent::open_session(&mut locked, seat, 1, 1, Version::V21).ok()?;
         drop(locked);
         self.worker.session = Standing::new(alloc, session, now).ok()?;
         Some(())

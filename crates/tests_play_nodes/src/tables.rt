@@ -7,7 +7,7 @@ use session_core::Session;
 use std::alloc::Global;
 use table_cell::TableCell;
 use table_shards::{Seat, Shards};
-use table_types::Moment;
+use table_types::{Moment, Version};
 use tests_play_data::parts::{TableParts, UpdateParts, definition, update};
 
 /// The tables of a side.
@@ -49,7 +49,7 @@ impl Tables {
     /// Opens the session in a table if it is to be open, and learns the table's rows.
     fn fill(&self, alloc: Global, cell: &mut TableCell, table: u64) -> Option<()> {
         if self.are_open {
-            cell.open_session(SESSION).ok()?;
+            cell.open_session(SESSION, Version::V21).ok()?;
         }
         self.learn(alloc, cell, table)
     }

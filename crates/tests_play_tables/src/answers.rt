@@ -6,7 +6,7 @@ use std::sync::Wait;
 use table_cell::{AckError, CopyError, LearnError, TableCell};
 use table_shards::held::{lent, noted};
 use table_shards::{Answer, Locked, Seat, ShardError, Shards};
-use table_types::{Change, CopyKind, DataType, Key, Moment, Update};
+use table_types::{Change, CopyKind, DataType, Key, Moment, Update, Version};
 use tests_play_data::parts::{T1, definition};
 
 /// Returns the answer that a seat keeps, if session 1 got it of `t1` when that had `events` events.
@@ -21,7 +21,7 @@ fn kept(seat: &Seat, events: u64) -> Option<Answer> {
 
 /// Opens session 1 in `t1`. Returns whether the seat then keeps no answer.
 fn opens(locked: &mut Locked, seat: &mut Seat) -> bool {
-    let opened = lent::open_session(locked, seat, 1, 1);
+    let opened = lent::open_session(locked, seat, 1, 1, Version::V21);
     opened == Ok(()) && seat.latest().is_none()
 }
 

@@ -3,12 +3,12 @@
 use crate::cells::{added, cell, only};
 use std::alloc::Global;
 use table_cell::{Entry, TableCell};
-use table_types::{Batch, CopyKind, Moment};
+use table_types::{Batch, CopyKind, Moment, Version};
 use tests_play_data::parts::T1;
 
 /// Opens session 1, and adds 5 to key 7.
 fn is_begun(cell: &mut TableCell) -> Option<bool> {
-    Some(cell.open_session(1) == Ok(()) && added(cell, 7, 5, 0)? == (1, 5))
+    Some(cell.open_session(1, Version::V21) == Ok(()) && added(cell, 7, 5, 0)? == (1, 5))
 }
 
 /// Returns whether the batch and that of the entry have the row, and equal the latest one of session 1.

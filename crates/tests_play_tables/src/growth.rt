@@ -12,7 +12,7 @@ use table_cell::{
 };
 use table_rows::{ListRows, MapRows, Rows};
 use table_shards::{Audit, RoundError, Seat, ShardError, Shards, held};
-use table_types::{Batch, Change, CopyKind, DataType, Key, Moment, Settled, Update};
+use table_types::{Batch, Change, CopyKind, DataType, Key, Moment, Settled, Update, Version};
 use tests_play_data::outcomes::{Outcome, is_out};
 use tests_play_data::parts::{T1, text_key};
 
@@ -95,7 +95,7 @@ fn purges(cell: &mut TableCell, purged: usize) -> Option<bool> {
 /// Makes a call, and returns whether it returns what it should; `None` if memory runs out.
 fn is_made(alloc: Global, cell: &mut TableCell, call: Call) -> Option<bool> {
     match call {
-        Call::Open(session) => match cell.open_session(session) {
+        Call::Open(session) => match cell.open_session(session, Version::V21) {
             Err(OpenError::Memory) => None,
             answer => Some(answer == Ok(())),
         },

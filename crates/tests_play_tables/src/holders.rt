@@ -5,6 +5,9 @@ use std::alloc::Global;
 use table_rows::{ListRows, MapRows, Rows};
 use table_types::{Key, Memory, Row};
 
+/// The most rows that are held.
+const MOST_ROWS: usize = 20;
+
 /// A call.
 #[derive(Clone, Copy)]
 enum Call {
@@ -14,32 +17,77 @@ enum Call {
     Take(u32),
 }
 
-/// Returns the call at a place of the list, which looks random. Keys are 1 to 50.
+/// Returns the call at a place of the list, which looks random. Keys are 1 to 50, and several rows end at one moment or have one
+/// number.
 fn call_at(place: u32) -> Call {
     let spread = place.wrapping_mul(2_654_435_761);
     let key = (spread >> 16) % 50 + 1;
-    let end = (spread >> 8) % 64;
+    let (number, end) = (place % 8 + 1, (spread >> 8) % 16);
     match spread >> 28 {
         0 | 1 | 2 | 3 => Call::Take(key),
-        4 | 5 => Call::Put(key, place, None),
-        _ => Call::Put(key, place, Some(end)),
+        4 | 5 => Call::Put(key, number, None),
+        _ => Call::Put(key, number, Some(end)),
     }
 }
 
-/// Returns the row that the call returns.
-fn reply_of<R: Rows>(rows: &mut R, alloc: Global, call: Call) -> Result<Option<Row>, Memory> {
+/// The row that a call returns, and the row that was taken out before it, with its key.
+#[derive(Drop)]
+struct Reply {
+    removed: Option<(Key, Row)>,
+    row: Option<Row>,
+}
+
+/// Takes out the row that ends first unless there is room for a row of `key`. Returns it with its key.
+fn make_room<R: Rows>(
+    rows: &mut R,
+    alloc: Global,
+    key: &Key,
+) -> Result<Option<(Key, Row)>, Memory> {
+    if rows.len() < MOST_ROWS || rows.get(key).is_some() {
+        return Ok(None);
+    }
+    let Some(first) = rows.first_to_end() else {
+        return Ok(None);
+    };
+    let first = first.copy(alloc)?;
+    Ok(match rows.take(&first) {
+        Some(row) => Some((first, row)),
+        None => None,
+    })
+}
+
+/// Makes the call, once there is room for its row.
+fn reply_of<R: Rows>(rows: &mut R, alloc: Global, call: Call) -> Result<Reply, Memory> {
     match call {
-        Call::Put(key, number, end) => rows.put(Key::Int(key), row(alloc, number, end)?),
-        Call::Take(key) => Ok(rows.take(&Key::Int(key))),
+        Call::Put(key, number, end) => {
+            let key = Key::Int(key);
+            Ok(Reply {
+                removed: make_room(rows, alloc, &key)?,
+                row: rows.put(key, row(alloc, number, end)?)?,
+            })
+        }
+        Call::Take(key) => Ok(Reply {
+            removed: None,
+            row: rows.take(&Key::Int(key)),
+        }),
     }
 }
 
-fn are_same_replies(one: &Option<Row>, other: &Option<Row>) -> bool {
+fn are_same_removed(one: &Option<(Key, Row)>, other: &Option<(Key, Row)>) -> bool {
     match (one, other) {
-        (Some(one), Some(other)) => one.is_same(other),
+        (Some(one), Some(other)) => one.0.is_same(&other.0) && one.1.is_same(&other.1),
         (None, None) => true,
         _ => false,
     }
+}
+
+fn are_same_replies(one: &Reply, other: &Reply) -> bool {
+    let are_same = match (&one.row, &other.row) {
+        (Some(one), Some(other)) => one.is_same(other),
+        (None, None) => true,
+        _ => false,
+    };
+    are_same && are_same_removed(&one.removed, &other.removed)
 }
 
 fn are_same_rows(one: &[(Key, Row)], other: &[(Key, Row)]) -> bool {
@@ -109,17 +157,17 @@ fn reply_the_same<R: Rows, S: Rows>(
 fn agree_in_all(alloc: Global) -> Result<bool, Memory> {
     let mut map = MapRows::new(alloc);
     let mut list = ListRows::new(alloc);
-    let begun = reply_the_same(&mut map, &mut list, alloc, 1, 1_101)?;
+    let begun = reply_the_same(&mut map, &mut list, alloc, 0, 1_000)?;
     let mut map_copy = map.copy()?;
     let mut list_copy = list.copy()?;
-    let ended = reply_the_same(&mut map, &mut list, alloc, 1_101, 2_201)?;
+    let ended = reply_the_same(&mut map, &mut list, alloc, 1_000, 2_000)?;
     let same = hold_the_same(&map, &list)? && list_the_same_parts(&map, &list)?;
-    let copies_ended = reply_the_same(&mut map_copy, &mut list_copy, alloc, 1_101, 2_201)?;
+    let copies_ended = reply_the_same(&mut map_copy, &mut list_copy, alloc, 1_000, 2_000)?;
     let copies_same = hold_the_same(&map_copy, &list_copy)? && hold_the_same(&map_copy, &map)?;
     Ok(begun && ended && same && copies_ended && copies_same && map.len() > 10)
 }
 
-/// Returns whether both agree over the whole list, after which they also list the same parts, and over its second half from
+/// Returns whether both agree over a list of 2,000 calls, after which they also list the same parts, and over its second half from
 /// copies made in the middle.
 pub fn agree(alloc: Global) -> Option<bool> {
     agree_in_all(alloc).ok()

@@ -8,7 +8,7 @@ use std::sync::Wait;
 use table_cell::{CheckpointError, RenumberError};
 use table_shards::held::lent;
 use table_shards::{Audit, AuditError, RoundError, Seat, ShardError, Shards, held};
-use table_types::{CopyKind, Moment};
+use table_types::{CopyKind, Moment, Version};
 
 /// Makes a round of `t1` with three tracks of key 7, and audits it.
 fn audited<R: Wait>(rt: &R, alloc: Global) -> Option<Audit> {
@@ -59,7 +59,7 @@ fn copies<R: Wait>(rt: &R, round: &mut Round) -> Option<bool> {
     let lock = round.shards.cell(1)?;
     let seat = round.seat.as_mut()?;
     let mut locked = lock.lock(rt);
-    let opened = lent::open_session(&mut locked, seat, 1, 1);
+    let opened = lent::open_session(&mut locked, seat, 1, 1, Version::V21);
     let copied = lent::copy(
         &mut locked,
         seat,

@@ -7,7 +7,7 @@ use crate::cells::cell;
 use std::alloc::Global;
 use table_cell::{AckError, CopyError, LearnError, OpenError, TableCell, TrackError};
 use table_types::{
-    Cell, Change, CopyKind, DataType, Key, KeyKind, Moment, Row, Settled, Update, Value,
+    Cell, Change, CopyKind, DataType, Key, KeyKind, Moment, Row, Settled, Update, Value, Version,
 };
 use tests_play_data::parts::{
     KeyParts, TableParts, UpdateParts, is_called, named, text_key, update,
@@ -50,7 +50,7 @@ pub struct Tracking {
 /// Opens the sessions 1 to `last`.
 fn opens(cell: &mut TableCell, last: u32) -> bool {
     for session in 0..last {
-        if cell.open_session(session + 1).is_err() {
+        if cell.open_session(session + 1, Version::V21).is_err() {
             return false;
         }
     }
@@ -228,9 +228,13 @@ fn acknowledges(cell: &mut TableCell) -> bool {
 
 /// Opens session 5.
 fn opens_another(cell: &mut TableCell) -> bool {
-    let first = cell.open_session(5);
+    let first = cell.open_session(5, Version::V21);
     let ran_out = first == Err(OpenError::Memory) && cell.events() == 4;
-    let last = if ran_out { cell.open_session(5) } else { first };
+    let last = if ran_out {
+        cell.open_session(5, Version::V21)
+    } else {
+        first
+    };
     last == Ok(()) && cell.events() == 5
 }
 
