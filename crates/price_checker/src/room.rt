@@ -1,18 +1,18 @@
 //! Whether the slots suffice for all kept links.
 
-ghost use Rattle.std.specs.Prelude.{◌≡◌, ℕ, ◌+◌, ◌-◌, ◌^◌, ◌<◌, ◌≤◌, ◌↔◌, ◌==◌, IsTrue, length, slice_index, if◌then◌else◌};
+ghost use Rattle.std.specs.Prelude.{◌≡◌, ℕ, ◌+◌, ◌-◌, ◌<◌, ◌≤◌, ◌↔◌, ◌==◌, IsTrue, length, slice_index, if◌then◌else◌};
 ghost use Rattle.known_state.specs.Plans.{kept_over, kept_from, kept_to};
 ghost use Rattle.price_checker.specs.Links.{AreWithin};
 
 use crate::links::{MOST_REQUESTS, RequestLink};
 
 /// A number for each place.
-type Counts = [usize; MOST_REQUESTS + 1];
+type Counts = [u16; MOST_REQUESTS + 1];
 
 /// Adds one at a place.
 fn count(counts: &mut Counts, place: u16)
     requires place { place ≤ 4096 }
-    requires small { (other : ℕ) → slice_index counts.old other < 2 ^ 32 }
+    requires small { (other : ℕ) → slice_index counts.old other ≤ 4096 }
     ensures counted { (other : ℕ) → slice_index counts.new other ≡ slice_index counts.old other + (if place == other then 1 else 0) }
 {
     counts[usize::from(place)] += 1;
@@ -45,10 +45,10 @@ pub fn have_room(slots: usize, links: &[RequestLink]) -> bool
     ensures { IsTrue result ↔ ((place : ℕ) → kept_over links.now place ≤ slots - 1) }
 {
     let (begin, end) = kept_ends(links);
-    let mut over = 0;
+    let mut over = 0_u16;
     for place in 1..MOST_REQUESTS {
         over = over + begin[place - 1] - end[place];
-        if over >= slots {
+        if usize::from(over) >= slots {
             return false;
         }
     }

@@ -24,8 +24,8 @@ overflow_sub-over-in-loop-place c =
     let place = c.loop-place.place in
     omega (arith, c.loop-place.invariant.counted, c.kept_ends.ensures.begin (place - 1), c.kept_ends.ensures.end place, over_here ls place c.requires.within (omega arith))
 
-pub returns-then-over-slots : goal.returns-then-over-slots
-returns-then-over-slots c = (
+pub returns-then-from-slots : goal.returns-then-from-slots
+returns-then-from-slots c = (
   λ yes. absurd (cc),
   λ room.
       let ls = c.args.links.now in
