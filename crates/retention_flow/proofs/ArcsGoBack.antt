@@ -1,5 +1,5 @@
 -- The arcs of requests begin at or before them, and have small savings.
-use Rattle.std.proofs.Common.{◌≡◌, ℕ, zero, suc, ◌+◌, ◌<◌, ◌≤◌, true, false, List, [], ◌∷◌, ◌++◌, length, drop, Option, Some, None, refl, arith}
+use Rattle.std.proofs.Common.{◌≡◌, ℕ, zero, suc, ◌+◌, ◌<◌, ◌≤◌, false, List, [], ◌∷◌, ◌++◌, length, drop, Option, Some, None, refl, arith}
 use Rattle.known_state.specs.Requests.{Asked}
 use Rattle.known_state.specs.Plans.{Asking, at_start, after_request}
 use Rattle.retention_flow.specs.declared.arcs.RequestArc.{RequestArc}

@@ -1,9 +1,9 @@
 -- A plan is accepted once as many slots are spent as there are, less one.
-use Rattle.std.proofs.Common.{◌≡◌, ℕ, ◌+◌, ◌-◌, ◌^◌, ◌<◌, ◌≤◌, List, length, replicate, slice_index, Option, sym, ap, subst, arith}
+use Rattle.std.proofs.Common.{◌≡◌, ℕ, ◌+◌, ◌-◌, ◌^◌, ◌<◌, ◌≤◌, List, length, replicate, slice_index, sym, ap, subst, arith}
 use Rattle.known_state.specs.Requests.{Asked}
 use Rattle.known_state.specs.Plans.{Plan, at_start, Accepts}
 use Rattle.retention_flow.specs.declared.arcs.RequestArc.{RequestArc}
-use Rattle.retention_flow.specs.Network.{AreArcs, GoBack, SaveIfKept, IsCalm, IsRoom, arcs_from, plan_of}
+use Rattle.retention_flow.specs.Network.{AreArcs, SaveIfKept, IsCalm, IsRoom, arcs_from, plan_of}
 use Rattle.retention_flow.proofs.CalmHeights.{calm_is_accepted, arcs-length}
 use Rattle.retention_flow.proofs.HeightsAreBounded.{prices_bounded}
 use Rattle.retention_flow.proofs.ArcsAreSpent.{spent_by_arcs}

@@ -4,11 +4,11 @@ use Rattle.std.specs.Prelude.{slice_set, nat_lt}
 use Rattle.std.proofs.lemmas.Bool.{cases_lt}
 use Rattle.std.proofs.lemmas.List.{get_or-set_same, get_or-set_other}
 use Rattle.std.proofs.lemmas.Bool.Decides.{nat_tests}
-use Rattle.known_state.specs.Plans.{is_inside, kept_over}
+use Rattle.known_state.specs.Plans.{is_inside}
 use Rattle.retention_flow.specs.declared.arcs.RequestArc.{RequestArc}
 use Rattle.retention_flow.specs.declared.steps.ResidualArc.{ResidualArc}
 use Rattle.retention_flow.specs.declared.steps.ResidualArc.TheVariants as residuals
-use Rattle.retention_flow.specs.Network.{GoBack, link_at, links_of, arc_at, arc_kept, IsRoomFrom, IsResidual, tail_of, augmented_room, augmented_arcs}
+use Rattle.retention_flow.specs.Network.{GoBack, link_at, arc_at, arc_kept, IsRoomFrom, IsResidual, tail_of, augmented_room, augmented_arcs}
 use Rattle.retention_flow.proofs.TurnedArcs.{over_set}
 use Rattle.retention_flow.proofs.TurnedResiduals.{set-length}
 

@@ -1,7 +1,7 @@
-use Rattle.std.proofs.Common.{rules, ◌≡◌, ℕ, ◌+◌, ◌-◌, List, length, drop, replicate, sym, ap, ◌∙◌, subst, arith}
+use Rattle.std.proofs.Common.{rules, ◌≡◌, ℕ, ◌+◌, List, length, drop, replicate, ap, ◌∙◌, arith}
 use Rattle.std.proofs.lemmas.Result.{IfOk-weaker}
 use Rattle.known_state.specs.Requests.{Asked}
-use Rattle.known_state.specs.Plans.{Plan, at_start, Accepts}
+use Rattle.known_state.specs.Plans.{at_start, Accepts}
 use Rattle.retention_flow.specs.Network.{AreArcs, plan_of}
 use Rattle.retention_flow.proofs.PlanIsAccepted.{spent_is_accepted}
 use Rattle.retention_flow.proofs.SpreadGoesOn.{written}

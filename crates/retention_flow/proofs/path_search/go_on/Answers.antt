@@ -1,4 +1,4 @@
-use Rattle.std.proofs.Common.{ℕ, List, length, Option, Some, refl, sym, ◌∙◌, subst, arith}
+use Rattle.std.proofs.Common.{ℕ, List, length, Option, Some, refl, sym, subst, arith}
 use Rattle.std.specs.Prelude.{slice_set}
 use Rattle.retention_flow.specs.declared.steps.Step.{Step}
 use Rattle.retention_flow.specs.Network.{IsSpread}

@@ -1,5 +1,4 @@
-use Rattle.std.proofs.Common.{◌≡◌, ℕ, sym, ◌∙◌}
-use Rattle.retention_flow.specs.Network.{IsRoom}
+use Rattle.std.proofs.Common.{sym, ◌∙◌}
 use Rattle.retention_flow.proofs.PlanIsAccepted.{found_are, found_calm, found_few, found_save, room_here}
 use Rattle.retention_flow.proofs.planning.plan.Goals as goal
 

@@ -1,4 +1,4 @@
-use Rattle.std.proofs.Common.{◌≡◌, ℕ, ◌<◌, false, List, length, Option, subst}
+use Rattle.std.proofs.Common.{◌≡◌, ◌<◌, false, List, length, Option, subst}
 use Rattle.retention_flow.specs.declared.steps.Step.{Step}
 use Rattle.retention_flow.specs.declared.steps.ResidualArc.TheVariants as residuals
 use Rattle.retention_flow.specs.Network.{is_reached}

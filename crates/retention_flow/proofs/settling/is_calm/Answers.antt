@@ -1,4 +1,4 @@
-use Rattle.std.proofs.Common.{◌≡◌, ℕ, ◌+◌, ◌<◌, subst, arith}
+use Rattle.std.proofs.Common.{◌≡◌, ℕ, ◌+◌, subst, arith}
 use Rattle.retention_flow.specs.Network.{IsCalmArc, arc_at}
 use Rattle.retention_flow.proofs.RaisedIsCalm.{calm_all}
 use Rattle.retention_flow.proofs.settling.is_calm.Goals as goal

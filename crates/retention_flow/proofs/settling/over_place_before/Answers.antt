@@ -1,4 +1,4 @@
-use Rattle.std.proofs.Common.{◌+◌, ◌-◌, ◌≤◌, slice_index, ap, subst, arith}
+use Rattle.std.proofs.Common.{◌-◌, arith}
 use Rattle.retention_flow.proofs.SpreadGoesOn.{leaves_within}
 use Rattle.retention_flow.proofs.settling.over_place_before.Goals as goal
 
