@@ -5,7 +5,7 @@ use Rattle.std.specs.Vec.{with_items}
 use Rattle.std.proofs.lemmas.Bool.{cases_Bool, cond-true, cond-false}
 use Rattle.std.proofs.lemmas.List.{length-map, with_items_is}
 use Rattle.table_shards.specs.declared.pages.Page.{Page}
-use Rattle.table_shards.specs.Receipts.{PageState, SeatState, forgotten, forgotten_page, page_at, receipts_of, receipts_on, seen_of, seen_on, PlacesRise}
+use Rattle.table_shards.specs.Receipts.{PageState, SeatState, emptied, forgotten, forgotten_page, page_at, receipts_of, receipts_on, seen_of, seen_on, PlacesRise}
 use Rattle.table_shards.specs.Pages.{ArePages, TablesDiffer, page_state, page_states}
 use Rattle.table_shards.proofs.PageLaws.{eqb_is}
 
@@ -15,11 +15,11 @@ page_here t p ps same = cond-true (p.table == t) (Some p) (page_at t ps) same
 page_there : (t : ℕ) (p : PageState) (ps : List PageState) → (p.table == t) ≡ false → page_at t (p ∷ ps) ≡ page_at t ps
 page_there t p ps other = cond-false (p.table == t) (Some p) (page_at t ps) other
 
-without : (t : ℕ) (p : PageState) → (p.table == t) ≡ true → forgotten_page t p ≡ record p { receipts = [] }
-without t p same = cond-true (p.table == t) (record p { receipts = [] }) p same
+without : (t : ℕ) (p : PageState) → (p.table == t) ≡ true → forgotten_page t p ≡ emptied p
+without t p same = cond-true (p.table == t) (emptied p) p same
 
 stays : (t : ℕ) (p : PageState) → (p.table == t) ≡ false → forgotten_page t p ≡ p
-stays t p other = cond-false (p.table == t) (record p { receipts = [] }) p other
+stays t p other = cond-false (p.table == t) (emptied p) p other
 
 same_table : (t : ℕ) (p : PageState) → (forgotten_page t p).table ≡ p.table
 same_table t p = elim (cases_Bool (p.table == t)) [

@@ -65,9 +65,13 @@ pages_with table r (p ∷ ps) = if p.table == table then page_with p r ∷ ps el
 abbrev pub with_receipt : SeatState → ℕ → ReceiptState → SeatState
 with_receipt s table r = record s { pages = pages_with table r s.pages }
 
--- the page without its receipts, if it is the table's; what was seen of the table stays
+-- the page without its receipts; what was seen of its table stays
+abbrev pub emptied : PageState → PageState
+emptied p = record p { receipts = [] }
+
+-- the page, emptied if it is the table's
 abbrev pub forgotten_page : ℕ → PageState → PageState
-forgotten_page table p = if p.table == table then record p { receipts = [] } else p
+forgotten_page table p = if p.table == table then emptied p else p
 
 -- the seat without its receipts of the table
 abbrev pub forgotten : ℕ → SeatState → SeatState
