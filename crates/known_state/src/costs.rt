@@ -133,7 +133,7 @@ impl Known {
         let mut requests = Vec::new(alloc);
         let mut full = 0;
         for update in updates {
-            // There are at most 512 updates, and each costs fewer than 2^16 bytes.
+            // There are at most 4,096 updates, and each costs fewer than 2^16 bytes.
             full += add(alloc, &mut knowledge, self.roster(), update, &mut requests)?;
         }
         Ok(Costing { requests, full })

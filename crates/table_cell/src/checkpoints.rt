@@ -60,8 +60,8 @@ impl TableCell {
     }
 
     /// Lets the history begin anew with the present state, and returns the events that the table had. The rows, their
-    /// numbers, the sessions, and the numbers of events and renewals so far stay. No batch is kept. If a batch of an open session is out,
-    /// the call is refused, and nothing has changed. Takes constant time, and doesn't allocate.
+    /// numbers, the sessions, and the numbers of events and renewals so far stay. No batch is kept. If a batch of an open
+    /// session is out, the call is refused, and nothing has changed. Takes constant time, and doesn't allocate.
     pub fn begin_anew(&mut self) -> Result<Dropped, CheckpointError>
         ensures { BeginsAnew self.old result self.new }
     {

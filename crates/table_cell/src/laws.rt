@@ -42,7 +42,7 @@ pub fn a_table_stays_sound()
 {}
 
 /// The rows of a sound table that a session hasn't acknowledged make a batch for that table, and so for each roster in
-/// which the table's id denotes it: each update has a life of 1 to the table's expire, or 0 if its rows never expire,
+/// which the table's id denotes it: a life that an update has is 1 to the table's expire, or 0 if its rows never expire,
 /// and everything else is in its range.
 pub fn what_is_copied_is_a_batch()
     ensures { (s : TableState) (session limit now : ℕ) (kind : CopyKind) → IsSound s → s.latest ≤ now → limit ≤ 4096 →

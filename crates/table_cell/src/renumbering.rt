@@ -31,8 +31,9 @@ impl Table {
 
 impl TableCell {
     /// Gives the rows, in their order, the numbers from 1 on, so that numbers are left for further changes, and lets the
-    /// history begin anew with them. It is no event, but the table counts it (`renewals`). The rows' contents, their origin, the latest moment and the number of events so far
-    /// stay. No batch is kept. If a session is open, the call is refused; then, and if memory runs out, nothing has changed.
+    /// history begin anew with them. It is no event, but the table counts it (`renewals`). The rows' contents, their origin,
+    /// the latest moment and the number of events so far stay. No batch is kept. If a session is open, the call is refused;
+    /// then, and if memory runs out, nothing has changed.
     pub fn renumber(&mut self) -> Result<(), RenumberError>
         ensures { Renumbers self.old result self.new }
     {

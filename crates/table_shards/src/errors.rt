@@ -43,13 +43,14 @@ pub enum AuditError {
     /// The seats aren't those that were made with the tables, each once.
     #[error("a seat is missing")]
     MissingSeat,
-    /// The receipts of a table aren't its events.
+    /// The receipts of a table aren't its events in the round, or the cell isn't the table's, has dropped events of the round,
+    /// or had its rows numbered anew in it.
     #[error("table {table} and seat {seat} do not agree")]
     Mismatch {
         /// The least id of a table with a fault.
         table: u64,
         /// The least seat with a receipt that isn't the table's event at its place. It is 0 if there is none, and if
-        /// the cell isn't the table's or has dropped events of the round.
+        /// the cell isn't the table's, has dropped events of the round, or had its rows numbered anew in it.
         seat: u32,
     },
 }

@@ -17,8 +17,7 @@ use table_cell::TableCell;
 use table_types::Memory;
 
 /// A table under its lock, with its id, and how many events it had and how often its rows had got new numbers when the round
-/// began. Contracts see the table as it was when it was
-/// put under the lock, since no contract of a lock says what it holds.
+/// began. Contracts see the table as it was when it was put under the lock, since no contract of a lock says what it holds.
 #[derive(Drop)]
 pub(crate) struct Shard {
     table: u64,

@@ -151,8 +151,8 @@ impl Unlocked {
 
     /// Audits the round: the seats must be those that were made with the tables, each once, and each event of each
     /// table, from where the round began to the table's number of events, must be the receipt of exactly one seat. No table
-    /// may have dropped an event of the round, or have got new numbers in it. If the audit fails, returns the tables and the seats with the error. Doesn't allocate. Takes time linear in the
-    /// number of events and receipts.
+    /// may have dropped an event of the round, or have had its rows numbered anew in it. If the audit fails, returns the
+    /// tables and the seats with the error. Doesn't allocate. Takes time linear in the number of events and receipts.
     pub fn audit(self, seats: Vec<Seat>) -> Result<Audit, (AuditError, Unlocked, Vec<Seat>)>
         ensures audited { IfOk result (λ audit. (audit ≡ record { unlocked = self; seats = seats.items }) × Audits self seats.items None) }
         ensures refused { IfErr result (λ back. Audits self seats.items (Some back.0) × (back.1 ≡ self) × (back.2 ≡ seats)) }
