@@ -103,6 +103,15 @@ pub(crate) fn planned(alloc: Global, slots: usize, asked: &Requested) -> Result<
     retention_flow::plan(alloc, slots, held, requests)
 }
 
+/// Returns the plan that the planner makes that only cancels cycles.
+fn planned_by_cycles(alloc: Global, slots: usize, asked: &Requested) -> Result<Plan, PlanError> {
+    let (held, requests) = (asked.held.as_slice(), asked.requests.as_slice());
+    if slots < 1 || slots > 128 || held.len() > slots || requests.len() > Batch::MOST {
+        return Err(PlanError::Memory);
+    }
+    retention_flow::plan_by_cycles(alloc, slots, held, requests)
+}
+
 /// Returns whether the checker accepts the plan or refuses it as `judged` says.
 fn is_judged(alloc: Global, slots: usize, asked: &Requested, judged: &Judged) -> Option<bool> {
     let (marks, kept, prices, accepted) = judged;
@@ -110,10 +119,16 @@ fn is_judged(alloc: Global, slots: usize, asked: &Requested, judged: &Judged) ->
     Some(is_accepted(slots, asked, &plan)? == *accepted)
 }
 
-/// Returns whether the planner keeps the requests at the places `kept`, and the checker accepts its plan.
+/// Returns whether the plan keeps the requests at the places `kept`, and the checker accepts it.
+fn is_right(slots: usize, asked: &Requested, kept: &[usize], plan: &Plan) -> Option<bool> {
+    Some(keeps(plan, kept) && is_accepted(slots, asked, plan)?)
+}
+
+/// Returns whether both planners keep the requests at the places `kept`, and the checker accepts their plans.
 fn is_planned(alloc: Global, slots: usize, asked: &Requested, kept: &[usize]) -> Option<bool> {
     let made = planned(alloc, slots, asked).ok()?;
-    Some(keeps(&made, kept) && is_accepted(slots, asked, &made)?)
+    let by_cycles = planned_by_cycles(alloc, slots, asked).ok()?;
+    Some(is_right(slots, asked, kept, &made)? && is_right(slots, asked, kept, &by_cycles)?)
 }
 
 /// Returns the index of the first plan that is judged differently, or the number of plans if the planner keeps other requests, or
@@ -232,10 +247,16 @@ fn is_kept(plan: &Plan, turn: &InTurn) -> bool {
         }
 }
 
+/// Returns whether the plan keeps what it should, and the checker accepts it.
+fn is_right_in_turn(asked: &Requested, turn: &InTurn, plan: &Plan) -> Option<bool> {
+    Some(is_kept(plan, turn) && is_accepted(128, asked, plan)?)
+}
+
 fn is_planned_in_turn(alloc: Global, turn: &InTurn) -> Option<bool> {
     let asked = asked_in_turn(alloc, turn)?;
     let made = planned(alloc, 128, &asked).ok()?;
-    Some(is_kept(&made, turn) && is_accepted(128, &asked, &made)?)
+    let by_cycles = planned_by_cycles(alloc, 128, &asked).ok()?;
+    Some(is_right_in_turn(&asked, turn, &made)? && is_right_in_turn(&asked, turn, &by_cycles)?)
 }
 
 /// Returns the index of the first of these for which the planner keeps other requests, or the checker refuses its plan.
