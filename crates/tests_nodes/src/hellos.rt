@@ -2,7 +2,7 @@
 
 use peers_hello::Status;
 use table_types::Version;
-use tests_play_nodes::hellos::{Answered, first_misread, first_other_status};
+use tests_play_nodes::hellos::{Answered, first_misread, first_other_status, is_written};
 
 /// Lines without an end, of the most bytes that a line has, and of one more.
 const LONGEST: &[u8] = &[b'x'; 512];
@@ -15,11 +15,23 @@ static HELLOS: [(&[u8], Answered); 28] = [
     (b"HAProxyS 2.1\nc\na 1 1\n", Answered::Refused(503, 21)),
     (b"HAProxyS 2.1\nb\nz 1 1\n", Answered::Refused(504, 21)),
     (b"HAProxyX 2.1\nb\na 1 1\n", Answered::Refused(501, 21)),
-    (b"HAProxyS 2.1\nb\na 1 1\n", Answered::Accepted(Version::V21, 21)),
-    (b"HAProxyS 2.0\nb\na 1 1\n", Answered::Accepted(Version::V20, 21)),
+    (
+        b"HAProxyS 2.1\nb\na 1 1\n",
+        Answered::Accepted(Version::V21, 21),
+    ),
+    (
+        b"HAProxyS 2.0\nb\na 1 1\n",
+        Answered::Accepted(Version::V20, 21),
+    ),
     // Messages follow, and a CR ends each line.
-    (b"HAProxyS 2.1\nb\na 1 1\n\x00\x00", Answered::Accepted(Version::V21, 21)),
-    (b"HAProxyS 2.1\r\nb\r\na 1 1\r\n", Answered::Accepted(Version::V21, 24)),
+    (
+        b"HAProxyS 2.1\nb\na 1 1\n\x00\x00",
+        Answered::Accepted(Version::V21, 21),
+    ),
+    (
+        b"HAProxyS 2.1\r\nb\r\na 1 1\r\n",
+        Answered::Accepted(Version::V21, 24),
+    ),
     // Versions that are not known, letter for letter.
     (b"HAProxyS 2.00\nb\na 1 1\n", Answered::Refused(502, 22)),
     (b"HAProxyS 2.01\nb\na 1 1\n", Answered::Refused(502, 22)),
@@ -49,6 +61,13 @@ static HELLOS: [(&[u8], Answered); 28] = [
 #[test]
 fn hellos(rt: HostRuntime) {
     assert_eq!(rt; first_misread(rt.alloc(), &HELLOS), None);
+}
+
+#[test]
+fn written_hellos(rt: HostRuntime) {
+    let alloc = rt.alloc();
+    assert!(rt; is_written(alloc, Version::V20, b"HAProxyS 2.0\nb\na 1 1\n"));
+    assert!(rt; is_written(alloc, Version::V21, b"HAProxyS 2.1\nb\na 1 1\n"));
 }
 
 static STATUSES: [(&[u8], Status); 11] = [

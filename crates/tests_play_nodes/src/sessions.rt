@@ -15,21 +15,21 @@ pub(crate) fn roster(alloc: Global, tables: &[TableParts]) -> Option<Roster> {
     Roster::new(definitions).ok()
 }
 
-/// Makes the hello of `a` to `b`.
-fn hello(alloc: Global) -> Option<Hello> {
+/// Makes the hello of `a` to `b`, with this version.
+pub(crate) fn hello(alloc: Global, version: Version) -> Option<Hello> {
     let (remote, local) = named(alloc, b"b").zip(named(alloc, b"a"))?;
     Some(Hello {
         remote,
         local,
         pid: 1,
         relative: 1,
-        version: Version::V21,
+        version,
     })
 }
 
 /// Makes the session of `a`, which connects to `b`.
 pub fn connecting(alloc: Global, roster: Roster, up_to_date: bool) -> Option<Session> {
-    let (hello, roster) = hello(alloc).zip(Some(roster))?;
+    let (hello, roster) = hello(alloc, Version::V21).zip(Some(roster))?;
     Session::connect(alloc, hello, roster, up_to_date).ok()
 }
 
