@@ -101,6 +101,23 @@ events 1000002 room 1000000
 " ''
 }
 
+# A batch has 4,096 rows at most: of 4,097 rows a copy takes all but the last, and the next copy takes that.
+large_batch() {
+    { printf '%s\n' 'table 1 t1 integer 4 30000 gpc0' 'size 5000' 'open 1'
+        repeat_lines 4097 'track 0 4294967296 %d add gpc0 1'
+        printf '%s\n' 'copy 1 push 4096 4294967296' 'ack 1 4096' 'copy 1 push 4096 4294967296' events; } >"$scene"
+    run table <"$scene"
+    tail -n 4101 "$scratch/output" >"$scratch/answers"
+    slurp "$scratch/answers"; output=$text
+    ends 'table of a script of 4,097 rows and two batches' 0 "$(
+        echo 'batch 1 4096'
+        awk 'BEGIN { for (i = 1; i <= 4096; i++) printf "update 1 %d 30000 %d 1\n", i, i - 1 }'
+        echo all
+        echo 'batch 2 1'
+        echo 'update 1 4097 30000 4096 1'
+        echo 'events 4101 room 995899')"$'\n' ''
+}
+
 # A table of 1,000,000 rows, each with a key of its own: it drops none to make room, and answers each change.
 million_rows() {
     { printf '%s\n' 'table 1 t1 integer 4 30000 gpc0' nopurge

@@ -103,7 +103,7 @@ def judge_spoilt(program, case):
 # --- check: streams with prices, and the verdict on them
 
 def make_check(random):
-    scene = lessons.random_scene(random, random.choice((10, 60, 512)))
+    scene = lessons.random_scene(random, random.choice((10, 60, 60, 512, 512, 4096)))
     messages, prices = lessons.random_stream(random, scene)
     return {'tables': scene.roster, 'start': tuple(scene)[1:5], 'updates': scene.updates, 'messages': messages, 'prices': prices,
             'cut': random.randrange(1, 5) if random.random() < 0.1 else 0}
@@ -131,7 +131,7 @@ def judge_check(program, case):
 # --- lesson: a lesson, its prices, its check, and its learner
 
 def make_lesson(random):
-    scene = lessons.random_scene(random, random.choice((10, 60, 512)))
+    scene = lessons.random_scene(random, random.choice((10, 60, 60, 512, 512, 4096)))
     return {'tables': scene.roster, 'start': tuple(scene)[1:5], 'updates': scene.updates, 'moment': random_moment(random)}
 
 
@@ -239,16 +239,17 @@ def judge_table(program, case):
 
 
 def make_world(random):
-    roster, count, options, steps, moment = worlds.random_world(random, random.choice((10, 40, 100)))
-    return {'tables': roster, 'sessions': count, 'options': options, 'lines': steps, 'moment': moment, 'seed': random.getrandbits(32)}
+    roster, count, versions, options, steps, moment = worlds.random_world(random, random.choice((10, 40, 100)))
+    return {'tables': roster, 'sessions': count, 'versions': versions, 'options': options, 'lines': steps, 'moment': moment,
+            'seed': random.getrandbits(32)}
 
 
 def judge_world(program, case):
     roster = tables_of(case)
-    lines = worlds.script_of(roster, case['sessions'], case['options'], case['lines'], case['moment'])
+    lines = worlds.script_of(roster, case['sessions'], case['versions'], case['options'], case['lines'], case['moment'])
     ending = program.read('world', text(lines))
     require(ending.status == 0, 'a script', 'is refused', ending.errors)
-    worlds.judge_answers(roster, case['sessions'], lines, case['moment'], ending.output)
+    worlds.judge_answers(roster, case['sessions'], case['versions'], lines, case['moment'], ending.output)
     pieces = program.read('world', text(worlds.in_pieces(chances.Random(case['seed']), lines)))
     require(pieces == ending, 'pieces', 'and whole deliveries differ:', differing(pieces.output, ending.output))
 

@@ -4,7 +4,7 @@ from collections import namedtuple
 
 from fuzzing.messages import encoded
 from fuzzing.received import Received, spelled, update_data
-from fuzzing.tables import (GREATEST, definition_data, edge, has_names, key_word, random_key, random_life, random_name,
+from fuzzing.tables import (GREATEST, definition_data, edge, has_names, key_word, life_word, random_key, random_life, random_name,
                             random_roster, random_values, table_line, value_words)
 
 SLOTS = 128
@@ -19,7 +19,8 @@ def random_scene(random, most):
     roster = random_roster(random)
     if any(table.length > 1000 for table in roster):
         most = min(most, 20)
-    names = [random_name(random) for _ in range(random.choice((1, 3, 20, 150, 150)))]
+    names = [random_name(random) for _ in range(random.choice((1, 3, 20, 150, 150, 1000)))]
+    untimed = random.choice((0, 0, 0.2, 1))
     defined, last, selected, slots = [], {}, None, {}
     if random.random() < 0.5:
         defined = [at for at in range(len(roster)) if random.random() < 0.6]
@@ -38,7 +39,8 @@ def random_scene(random, most):
         number = following if random.random() < 0.8 else edge(random, GREATEST)
         numbers[at] = number
         name = random.choice(names) if has_names(table) and random.random() < 0.95 else None
-        updates.append((at, number, random_life(random, table), random_key(random, table, True), random_values(random, table), name))
+        life = None if random.random() < untimed else random_life(random, table)
+        updates.append((at, number, life, random_key(random, table, True), random_values(random, table), name))
     return Scene(roster, defined, selected, last, slots, updates)
 
 
@@ -55,7 +57,7 @@ def scene_lines(scene):
 
 def update_line(table, update):
     number, life, key, values, name = update
-    words = [b'update', b'%d' % table.id, b'%d' % number, b'%d' % life, key_word(table, key)] + value_words(values)
+    words = [b'update', b'%d' % table.id, b'%d' % number, life_word(life), key_word(table, key)] + value_words(values)
     return b' '.join(words + [b'-' if name is None else name] * has_names(table))
 
 
@@ -200,7 +202,7 @@ def random_stream(random, scene):
                 say(('define', at, table.id, table.expire ^ (random.random() < wrong)))
         follows = number == known.last.get(table.id, -2) + 1 & GREATEST
         shown = None if follows and random.random() > spare or random.random() < wrong else number
-        lives = life if random.random() > wrong else None
+        lives = life if random.random() > wrong else 1 if life is None else None
         field = random_field(random, known, name, spare, wrong) if has_names(table) else None
         say(('update', at, shown, lives, key, values, field))
     if random.random() < 0.1 and said:

@@ -4,8 +4,8 @@ import re
 
 from fuzzing.programs import require, short
 from fuzzing.rows import KEYS, NUMBER, key_of, row_pattern
-from fuzzing.tables import (FIRST_MOMENT, GREATEST, GREATEST_MOMENT, RATES, SERVER_KEY, TYPES, edge, greatest, has_names, key_word, name_word,
-                            random_key, random_name, random_table, random_values, table_line, value_words)
+from fuzzing.tables import (FIRST_MOMENT, GREATEST, GREATEST_MOMENT, RATES, SERVER_KEY, TYPES, edge, greatest, has_names, key_word, life_word,
+                            name_word, random_key, random_name, random_table, random_values, table_line, value_words)
 
 REFUSALS = {
     'track': 'WrongKey NoSuchData MomentBack HistoryFull Spent TableFull',
@@ -42,7 +42,8 @@ def change_words(random, table, keys):
 
 def update_words(random, table, keys):
     """Returns the words of an update that is learned, from its number on."""
-    words = [b'%d' % edge(random, GREATEST), b'%d' % random.choice((30000, table.expire, 1, 0, edge(random, GREATEST))), random.choice(keys)]
+    life = random.choice((30000, table.expire, 1, 0, edge(random, GREATEST), None))
+    words = [b'%d' % edge(random, GREATEST), life_word(life), random.choice(keys)]
     words += value_words(random_values(random, table))
     return words + [random_name(random) if random.random() < 0.9 else b'-'] * has_names(table)
 
@@ -50,6 +51,11 @@ def update_words(random, table, keys):
 def short_keys(random, table):
     """Returns the words of a few keys of a table."""
     return [key_word(table, random_key(random, table, True)[:300]) for _ in range(random.choice((1, 3, 10, 100)))]
+
+
+def open_words(random, session):
+    """Returns the words that open a session, without a version or with one."""
+    return [b'open', session] + random.choice(([], [b'2.1'], [b'2.0']))
 
 
 def next_moment(random, moment):
@@ -67,7 +73,7 @@ def random_script(random, length):
     lines = [option for option in options if option[:1] == b'f' or random.random() < 0.5]
     sessions = [b'%d' % number for number in random.sample((0, 1, 2, 3, GREATEST), random.choice((1, 3)))]
     moment = random.choice((FIRST_MOMENT, FIRST_MOMENT, 2 ** 62))
-    lines += [b'open ' + session for session in sessions]
+    lines += [b' '.join(open_words(random, session)) for session in sessions]
     number = first - 1
     for _ in range(length):
         moment = next_moment(random, moment)
@@ -79,9 +85,10 @@ def random_script(random, length):
         elif chance < 0.5:
             line = [b'learn', session, at] + update_words(random, table, keys)
         elif chance < 0.55:
-            line = [b'open' if random.random() < 0.6 else b'close', session if random.random() < 0.9 else b'%d' % random.randrange(40)]
+            one = session if random.random() < 0.9 else b'%d' % random.randrange(40)
+            line = open_words(random, one) if random.random() < 0.6 else [b'close', one]
         elif chance < 0.72:
-            line = [b'copy', session, random.choice((b'push', b'push', b'resync', b'standing')), b'%d' % random.choice((1, 2, 512, 512)), at]
+            line = [b'copy', session, random.choice((b'push', b'push', b'resync', b'standing')), b'%d' % random.choice((1, 2, 512, 4096)), at]
         elif chance < 0.88:
             line = [b'ack', session, b'%d' % random.choice((number, number, max(0, number - random.randrange(5)), min(GREATEST, number + 1), 0))]
         elif chance < 0.9:
@@ -102,11 +109,11 @@ def random_script(random, length):
 # --- The answers
 
 class Session:
-    """What the answers say of an open session."""
+    """What the answers say of an open session. `timed` is whether its copies have lives."""
 
-    def __init__(self, bound):
+    def __init__(self, bound, timed):
         self.acknowledged = self.taught = 0
-        self.bound = bound
+        self.bound, self.timed = bound, timed
         self.out = False
 
 
@@ -132,7 +139,7 @@ class Audit:
         kind = b' (local|learned)'
         self.reply = row_pattern(table, b'reply (%s)' % NUMBER, kind)
         self.row = row_pattern(table, b'row (%s)' % NUMBER, kind)
-        self.update = re.compile(rb'update %d (%s) (%s) (%s)( .*)?' % (table.id, NUMBER, NUMBER, KEYS[table.kind]))
+        self.update = re.compile(rb'update %d (%s) (%s|-) (%s)( .*)?' % (table.id, NUMBER, NUMBER, KEYS[table.kind]))
 
     def answer(self, line, answers):
         """Takes the answer to a call; `answers` is an iterator over lines."""
@@ -147,6 +154,8 @@ class Audit:
         if what in EVENTS:
             if what == 'learn' and has_names(self.table) or what == 'track' and words[4] == b'name':
                 words[-1] = words[-1] if words[-1] == b'-' else name_word(words[-1])
+            if what == 'open' and words[2:] == [b'2.1']:
+                del words[2:]
             self.history.append(b' '.join(words) + b' = ' + (b'batch ' + said.split(b' ')[2] if what == 'copy' else said))
 
     def may_refuse(self, refusal, what, words):
@@ -190,7 +199,7 @@ class Audit:
 
     def open(self, words, said, _):
         require(said == b'ok' and words[1] not in self.sessions and len(self.sessions) < MOST_SESSIONS, 'open', '', said)
-        self.sessions[words[1]] = Session(self.number)
+        self.sessions[words[1]] = Session(self.number, words[2:] != [b'2.0'])
 
     def close(self, words, said, _):
         require(said == b'ok' and words[1] in self.sessions, 'close', '', said)
@@ -201,7 +210,8 @@ class Audit:
 
     def learn(self, words, said, _):
         require(words[1] in self.sessions, 'learn', 'without a session', said)
-        self.change(said, words[5], b'learned', int(words[2]), min(self.table.expire, int(words[4])))
+        lives = self.table.expire if words[4] == b'-' else min(self.table.expire, int(words[4]))
+        self.change(said, words[5], b'learned', int(words[2]), lives)
 
     def change(self, said, key, kind, moment, lives):
         match = self.reply.fullmatch(said)
@@ -230,7 +240,7 @@ class Audit:
         for line, row in zip(batch, due):
             update = self.update.fullmatch(line)
             require(update, 'an update', 'is not written as one of its table', line)
-            lives = b'0' if row[1] == b'-' else b'%d' % (int(row[1]) - self.moment)
+            lives = b'-' if not session.timed else b'0' if row[1] == b'-' else b'%d' % (int(row[1]) - self.moment)
             require(update.groups()[:3] == (row[0], lives, row[2]), 'an update', 'has another number, life or key than its row', line, row)
         session.taught, session.out = int(due[-1][0]), True
         self.batches.append(batch)

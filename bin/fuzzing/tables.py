@@ -155,5 +155,9 @@ def name_word(name):
     return name
 
 
+def life_word(life):
+    return b'-' if life is None else b'%d' % life
+
+
 def value_words(values):
     return [b'%d' % value if isinstance(value, int) else b'%d/%d/%d' % value for value in values]

@@ -5,7 +5,7 @@ import re
 from fuzzing.programs import require
 from fuzzing.rows import NUMBER, key_of, row_pattern
 from fuzzing.scripts import HISTORY, change_words, next_moment, short_keys, update_words
-from fuzzing.tables import FIRST_MOMENT, GREATEST, RATES, counted, edge, random_roster, table_line
+from fuzzing.tables import FIRST_MOMENT, GREATEST, GREATEST_MOMENT, RATES, counted, edge, random_roster, table_line
 
 # More bytes than any lesson here has; a delivery of more bytes than there are changes nothing.
 DRAIN = 1 << 18
@@ -18,10 +18,12 @@ def drained(session, end, moment):
 
 
 def random_world(random, length):
-    """Returns tables, the number of sessions, options, steps and a moment that comes after all of them."""
+    """Returns tables, the number of sessions, the versions that the script names, options, steps and a moment that comes after all of
+    them."""
     roster = [table._replace(length=min(table.length, 33), name=table.name[:20]) for table in random_roster(random, 3)]
     keys = [short_keys(random, table) for table in roster]
     sessions = random.choice((1, 1, 2, 16))
+    versions = [random.choice((b'2.0', b'2.1')) for _ in range(sessions)] if random.random() < 0.6 else []
     options = []
     for table in roster:
         made = [b'size %d %d' % (table.id, random.choice((1, 2, 10))), b'nopurge %d' % table.id,
@@ -36,7 +38,7 @@ def random_world(random, length):
         steps += random_steps(random, roster[at], keys[at], session, moment)
         if random.random() < 0.04:
             steps.append(random.choice((b'session 1', b'rows %d', b'learner 1 %d', b'events %d')).replace(b'%d', b'%d' % roster[at].id))
-    return roster, sessions, options, steps, moment + 1
+    return roster, sessions, versions, options, steps, moment + 1
 
 
 def random_steps(random, table, keys, session, moment):
@@ -49,7 +51,7 @@ def random_steps(random, table, keys, session, moment):
         return [b' '.join([b'learn'] + head + [at] + update_words(random, table, keys))]
     if chance < 0.60:
         kind = random.choice((b'push', b'push', b'resync'))
-        return [b' '.join([b'copy'] + head + [kind, b'%d' % random.choice((1, 3, 512, 512, 513)), at])]
+        return [b' '.join([b'copy'] + head + [kind, b'%d' % random.choice((1, 3, 512, 4096, 4097)), at])]
     if chance < 0.76:
         return [b'teach %d' % session]
     if chance < 0.84:
@@ -63,9 +65,9 @@ def random_steps(random, table, keys, session, moment):
     return [b'purge %d %d' % (table.id, moment)]
 
 
-def script_of(roster, sessions, options, steps, moment):
+def script_of(roster, sessions, versions, options, steps, moment):
     """Returns the lines of a script that ends with a resync of each session over a new connection, and then asks for all rows."""
-    lines = [table_line(table) for table in roster] + [b'sessions %d' % sessions] + options + steps
+    lines = [table_line(table) for table in roster] + [b' '.join([b'sessions %d' % sessions] + versions)] + options + steps
     for session in range(1, sessions + 1):
         lines.append(b'break %d' % session)
         lines += [b'copy %d %d resync 512 %d' % (session, table.id, moment) for table in roster]
@@ -132,7 +134,7 @@ class Answers:
     learner = rows
 
 
-def judge_answers(roster, sessions, lines, moment, output):
+def judge_answers(roster, sessions, versions, lines, moment, output):
     """Reads all answers. After the resync at the end each learner has exactly the rows that live, and each update taught was applied."""
     answers = Answers(roster, output)
     asked = [line.split(b' ') for line in lines if line.split(b' ')[0] in (b'session', b'rows', b'learner', b'events')]
@@ -140,12 +142,13 @@ def judge_answers(roster, sessions, lines, moment, output):
     for words in asked[:last]:
         getattr(answers, words[0].decode())(words)
     at = last
-    for _ in range(sessions):
+    for session in range(sessions):
+        timed = versions[session:session + 1] != [b'2.0']
         counts = answers.session(asked[at])
         living = 0
         for place, table in enumerate(roster):
             rows, learned = answers.rows(asked[at + 1 + 2 * place]), answers.learner(asked[at + 2 + 2 * place])
-            wanted = {key: taught_row(table, row, moment) for key, row in rows.items() if row[2] == b'-' or int(row[2]) > moment}
+            wanted = {key: taught_row(table, row, moment, timed) for key, row in rows.items() if row[2] == b'-' or int(row[2]) > moment}
             require(learned == wanted, 'a resync', 'leaves other rows than the teacher has', sorted(wanted.items()), sorted(learned.items()))
             living += len(wanted)
         require(counts == [0, living, living, 0, 0], 'a resync', 'does not come to rest', counts, living)
@@ -153,9 +156,12 @@ def judge_answers(roster, sessions, lines, moment, output):
     require(next(answers.lines, None) is None, 'answers', 'are more than questions')
 
 
-def taught_row(table, row, moment):
-    """Returns a teacher's row as its learner has it after a resync at a moment: learned, and with its rates turned."""
+def taught_row(table, row, moment, timed):
+    """Returns a teacher's row as its learner has it after a resync at a moment: learned, and with its rates turned. Without a life it ends
+    after the table's expire."""
     row = list(row)
+    if not timed and table.expire:
+        row[2] = b'%d' % min(GREATEST_MOMENT, moment + table.expire)
     periods = dict(table.periods)
     for place, kind in enumerate(counted(table)):
         if kind in RATES:
