@@ -1,11 +1,12 @@
 -- The tables of a script make a world.
 use Rattle.std.proofs.Common.{◌≡◌, ◌≤◌, ℕ, List, [], ◌∷◌, map, Option, Some, None, IfSome, refl, sym, ap, subst, ◌∙◌, arith}
 use Rattle.std.specs.List.{AllByRecursion}
-use Rattle.std.specs.Option.{unwrap_or}
+use Rattle.std.specs.Prelude.{length, option_map}
 use Rattle.table_types.specs.Rosters.{roster_fault}
 use Rattle.table_types.specs.Tables.{Definition}
+use Rattle.table_types.specs.declared.version.Version.{Version}
 use Rattle.table_cell.specs.Histories.{CellState}
-use Rattle.node_text.specs.Worlds.{definitions}
+use Rattle.node_text.specs.Worlds.{definitions, versions_or_one}
 use Rattle.node_text.specs.declared.script_tables.ScriptTable.{ScriptTable}
 use Rattle.interleave_core.specs.Opened.{CanBegin}
 use Rattle.interleave_core.specs.Worlds.{roster_of}
@@ -29,6 +30,7 @@ pub all_begin : (count : ℕ) (ts : List ScriptTable) (cells : List CellState) �
 all_begin count ts cells is few = subst (λ (cs : List CellState). AllByRecursion (CanBegin count) cs) (sym is) (each_begins count ts few)
 
 -- a script has 1 to 16 sessions
-pub sessions_within : (o : Option ℕ) → IfSome o (λ sessions. (1 ≤ sessions) × (sessions ≤ 16)) → (1 ≤ unwrap_or o 1) × (unwrap_or o 1 ≤ 16)
-sessions_within None within = (omega arith, omega arith)
-sessions_within (Some sessions) within = within
+pub sessions_within : {A : Type 0} (items : A → List Version) (o : Option A) → IfSome o (λ vs. (1 ≤ length (items vs)) × (length (items vs) ≤ 16))
+    → (1 ≤ length (versions_or_one (option_map items o))) × (length (versions_or_one (option_map items o)) ≤ 16)
+sessions_within items None within = (omega arith, omega arith)
+sessions_within items (Some vs) within = within

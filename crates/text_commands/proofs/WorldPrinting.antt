@@ -4,7 +4,7 @@ use Rattle.std.specs.Prelude.{Option, None, Some, map}
 use Rattle.interleave_core.specs.Worlds.{ConnectionState, WorldState, new_world}
 use Rattle.node_text.specs.declared.world_lines.WorldLine.{WorldLine}
 use Rattle.node_text.specs.declared.worlds.WorldScript.{WorldScript}
-use Rattle.node_text.specs.Worlds.{IsWorldScript, session_count}
+use Rattle.node_text.specs.Worlds.{IsWorldScript, versions_of}
 use Rattle.text_commands.specs.Running.{cell_of}
 use Rattle.text_commands.specs.Worlds.{AnswersSession, AreCounts, IsWorldPrinted, PrintLines, session_line}
 
@@ -18,14 +18,14 @@ all_printed start w lines [] n before after count none (so_far, same, all) =
 all_printed start w lines (line ∷ left) n before after count none printed = absurd (omega (arith, count, none))
 
 -- the lines are made of the script's new world, with nothing printed before
-pub run_printed : (s : WorldScript) (w : WorldState) (before after : List ℕ) → IsWorldScript s → w ≡ new_world (map cell_of s.tables.items) (session_count s) → before ≡ []
+pub run_printed : (s : WorldScript) (w : WorldState) (before after : List ℕ) → IsWorldScript s → w ≡ new_world (map cell_of s.tables.items) (versions_of s) → before ≡ []
     → ((text : List ℕ) × (e : WorldState) × PrintLines w s.lines.items text e × (after ≡ before ++ text)) → IsWorldPrinted s after
 unfolding IsWorldPrinted
 run_printed s w before after kept new nothing (text, e, printed, same) =
-    let all : PrintLines (new_world (map cell_of s.tables.items) (session_count s)) s.lines.items text e
+    let all : PrintLines (new_world (map cell_of s.tables.items) (versions_of s)) s.lines.items text e
     = subst (λ x. PrintLines x s.lines.items text e) new printed in
     let is : after ≡ text = same ∙ ap (λ b. b ++ text) nothing in
-    (e, kept, subst (λ t. PrintLines (new_world (map cell_of s.tables.items) (session_count s)) s.lines.items t e) (sym is) all)
+    (e, kept, subst (λ t. PrintLines (new_world (map cell_of s.tables.items) (versions_of s)) s.lines.items t e) (sym is) all)
 
 -- a session that is there, and one that isn't
 pub session_answered : (session copied taught applied learner teacher : ℕ) (found : Option ConnectionState) (before after : List ℕ)

@@ -54,8 +54,8 @@ Settles c session us (Err error) = IsLatestBatch c session us → ⊥
 -- From the cell `c` and the batches `given`, the call prints the text, and leaves `e` and the batches `more`. A call to
 -- settle names one of the batches `given`.
 abbrev pub Prints : CellState → List (List Update) → Call → List ℕ → CellState → List (List Update) → Type 0
-Prints c given (calls.Open session) text e more =
-    (r : Result (Unit {0}) OpenError) × Opens c session r e × (opened r ≡ Some text) × (more ≡ given)
+Prints c given (calls.Open session version) text e more =
+    (r : Result (Unit {0}) OpenError) × Opens c session version r e × (opened r ≡ Some text) × (more ≡ given)
 Prints c given (calls.Close session) text e more =
     (r : Result (Unit {0}) CloseError) × Closes c session r e × (closed r ≡ Some text) × (more ≡ given)
 Prints c given (calls.Track seat key change now) text e more =

@@ -22,7 +22,7 @@ use Rattle.node_text.specs.declared.world_lines.WorldStep.TheVariants as said
 use Rattle.node_text.specs.declared.world_lines.WorldQuestion.{WorldQuestion}
 use Rattle.node_text.specs.declared.world_lines.WorldQuestion.TheVariants as questions
 use Rattle.node_text.specs.declared.worlds.WorldScript.{WorldScript}
-use Rattle.node_text.specs.Worlds.{IsWorldScript, session_count}
+use Rattle.node_text.specs.Worlds.{IsWorldScript, versions_of}
 use Rattle.text_commands.specs.Answers.{events_line, rows_lines}
 use Rattle.text_commands.specs.Endings.{IsEarly}
 use Rattle.text_commands.specs.Running.{cell_of, definition_of}
@@ -99,9 +99,9 @@ PrintLines w [] text e = (text ≡ []) × (e ≡ w)
 PrintLines w (line ∷ rest) text e =
     (one more : List ℕ) × (mid : WorldState) × (text ≡ one ++ more) × PrintsLine w line one mid × PrintLines mid rest more e
 
--- the script keeps the rules of scripts, and its lines print the text, in a new world of its tables and sessions
+-- the script keeps the rules of scripts, and its lines print the text, in a new world of its tables and its sessions, each with its version
 unfoldable pub IsWorldPrinted : WorldScript → List ℕ → Type 0
-IsWorldPrinted s text = (e : WorldState) × IsWorldScript s × PrintLines (new_world (map cell_of s.tables.items) (session_count s)) s.lines.items text e
+IsWorldPrinted s text = (e : WorldState) × IsWorldScript s × PrintLines (new_world (map cell_of s.tables.items) (versions_of s)) s.lines.items text e
 
 -- how `world` may end: with Done, and some script is run to its end; at a refused line, whose number is at least 1; or early for
 -- another reason

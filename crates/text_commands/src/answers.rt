@@ -25,13 +25,18 @@ use node_text::{
 };
 use std::alloc::Global;
 use table_cell::TableCell;
-use table_types::{Batch, Change, Key, Memory, Moment, Update};
+use table_types::{Batch, Change, Key, Memory, Moment, Update, Version};
 
 /// Opens a session, and appends the line of the result.
-pub(crate) fn open(cell: &mut TableCell, text: &mut Vec<u8>, session: u32) -> Result<(), Memory>
-    ensures { OnOk result ((r : Result (Unit {0}) OpenError) × Opens cell.old session r cell.new × Adds (opened r) text.old.items text.new.items) }
+pub(crate) fn open(
+    cell: &mut TableCell,
+    text: &mut Vec<u8>,
+    session: u32,
+    version: Version,
+) -> Result<(), Memory>
+    ensures { OnOk result ((r : Result (Unit {0}) OpenError) × Opens cell.old session version r cell.new × Adds (opened r) text.old.items text.new.items) }
 {
-    match cell.open_session(session) {
+    match cell.open_session(session, version) {
         Ok(()) => push_line(text, "ok"),
         Err(error) => push_refusal(text, open_refusal(error)),
     }

@@ -87,7 +87,7 @@ impl Run {
                 let answer = cell.copy(session, kind, limit, moment);
                 push_copied(alloc, cell.definition(), given, text, answer)?;
             }
-            Call::Open(session) => open(cell, text, session)?,
+            Call::Open { session, version } => open(cell, text, session, version)?,
             Call::Close(session) => close(cell, text, session)?,
             Call::Track {
                 seat,

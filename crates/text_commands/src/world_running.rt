@@ -1,9 +1,9 @@
 //! Runs a world: makes the steps of a script in turn, and answers the questions in between.
-ghost use Rattle.std.specs.Prelude.{◌≡◌, ◌++◌, IfOk, List, OnOk, map, ℕ};
+ghost use Rattle.std.specs.Prelude.{◌≡◌, ◌++◌, IfOk, List, OnOk, map, option_map, ℕ};
 ghost use Rattle.std.specs.List.{AllByRecursion};
 ghost use Rattle.interleave_core.specs.Worlds.{WorldState};
 ghost use Rattle.node_text.specs.ScriptTables.{IsScriptTable};
-ghost use Rattle.node_text.specs.Worlds.{IsWorldScript};
+ghost use Rattle.node_text.specs.Worlds.{IsWorldScript, versions_or_one};
 ghost use Rattle.text_commands.specs.Running.{cell_of};
 ghost use Rattle.text_commands.specs.Worlds.{Answers, IsWorldPrinted, PrintLines, PrintsLine, step_of};
 
@@ -13,19 +13,34 @@ use interleave_core::{Step, Way, World, run};
 use node_text::{ScriptTable, WorldLine, WorldQuestion, WorldScript, WorldStep};
 use std::alloc::Global;
 use table_cell::TableCell;
-use table_types::Memory;
+use table_types::{Memory, Version};
 
 /// Returns what the script of a world prints.
 pub(crate) fn printed(alloc: Global, script: WorldScript) -> Result<Vec<u8>, Memory>
     requires { IsWorldScript script }
     ensures { IfOk result (λ text. IsWorldPrinted script text.items) }
 {
-    let sessions = script.session_count();
-    let WorldScript { tables, lines, .. } = script;
-    let world = World::new(alloc, cells_of(alloc, tables)?, sessions)?;
+    let WorldScript {
+        tables,
+        versions,
+        lines,
+        ..
+    } = script;
+    let versions = versions_or_one(alloc, versions)?;
+    let world = World::new(alloc, cells_of(alloc, tables)?, versions)?;
     let mut text = Vec::new(alloc);
     run_lines(alloc, world, lines, &mut text)?;
     Ok(text)
+}
+
+/// Returns the versions of the sessions, in order: one session of 2.1 if the script has no line about them.
+fn versions_or_one(alloc: Global, versions: Option<Vec<Version>>) -> Result<Vec<Version>, Memory>
+    ensures { IfOk result (λ all. all.items ≡ versions_or_one (option_map (λ given. given.items) versions)) }
+{
+    match versions {
+        Some(versions) => Ok(versions),
+        None => Ok(vec![in alloc; Version::V21]?),
+    }
 }
 
 /// Returns the new tables of a script, in their order.
