@@ -26,3 +26,5 @@ mod staying;
 mod turns;
 #[cfg(test)]
 mod workers;
+#[cfg(test)]
+mod worlds;

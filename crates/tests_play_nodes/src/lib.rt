@@ -25,5 +25,6 @@ pub mod tables;
 pub mod turns;
 mod waiting;
 pub mod workers;
+pub mod worlds;
 
 pub use narrow::Then;

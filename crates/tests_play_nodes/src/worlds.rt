@@ -1,0 +1,253 @@
+//! Worlds of `t1` and one session: what steps leave in the lists of the session, on its way, and at its learner.
+
+use interleave_core::{Step, Way, World, run};
+use learner::Learner;
+use std::alloc::Global;
+use table_cell::TableCell;
+use table_types::{
+    Batch, Cell, Change, CopyKind, DataType, Key, Moment, Row, Update, Value, Version,
+};
+use tests_play_data::parts::{KeyParts, T1, UpdateParts, definition, update};
+
+/// The number of the session.
+const SESSION: u32 = 1;
+
+/// A session that isn't there.
+const STRANGER: u32 = 9;
+
+/// A step of `t1` and session 1 at the least moment.
+#[derive(Clone, Copy, Debug)]
+pub enum Short {
+    /// The teacher adds to the count of a key.
+    Track(u32, u64),
+    /// The teacher's table learns number 9: a count for a key, with a life of 30 s.
+    Learn(u32, u64),
+    Copy(CopyKind),
+    Teach,
+    /// This many bytes arrive at the learner.
+    ToLearner(usize),
+    /// This many bytes arrive at the teacher.
+    ToTeacher(usize),
+    Ack,
+    Break,
+    Reopen,
+    /// The connection of a session that isn't there breaks.
+    BreakAnother,
+}
+
+/// An update of `t1`: its number, its life, its key and its count.
+pub type Told = (u32, Option<u32>, u32, u64);
+
+/// What there is of session 1 and of `t1`.
+#[derive(Drop)]
+pub struct Seen {
+    /// The batches that wait to be taught.
+    pub copied: &'static [&'static [Told]],
+    pub taught: &'static [Told],
+    pub applied: &'static [Told],
+    pub to_learner: &'static [u8],
+    pub to_teacher: &'static [u8],
+    /// The learner's rows: their keys, numbers and counts. Each ends 30 s after the least moment.
+    pub rows: &'static [(u32, u32, u64)],
+    /// How many events the teacher's table has had.
+    pub events: u64,
+}
+
+/// Steps, and what there is after them.
+pub type Part = (&'static [Short], Seen);
+
+/// The version of the session, and steps in parts.
+pub type Story = (Version, &'static [Part]);
+
+/// Makes the step of an update that the teacher's table learns.
+fn learn(alloc: Global, key: u32, count: u64) -> Option<Step> {
+    let mut learned = update(
+        alloc,
+        &UpdateParts {
+            table: T1.id,
+            number: 9,
+            life: Some(30_000),
+            key: KeyParts::Int(0),
+            values: &[],
+            name: b"",
+        },
+    )?;
+    learned.key = Key::Int(key);
+    learned.values = learned.values.with(alloc, Value::Count(count)).ok()?;
+    Some(Step::Learn {
+        session: SESSION,
+        update: learned,
+        moment: Moment::least(),
+    })
+}
+
+/// Makes the step that delivers bytes.
+fn deliver(way: Way, count: usize) -> Step {
+    Step::Deliver {
+        session: SESSION,
+        way,
+        count,
+        moment: Moment::least(),
+    }
+}
+
+/// Makes a step.
+fn step_of(alloc: Global, short: Short) -> Option<Step> {
+    let (session, moment) = (SESSION, Moment::least());
+    Some(match short {
+        Short::Track(key, more) => Step::Track {
+            table: T1.id,
+            key: Key::Int(key),
+            change: Change::Add(DataType::Gpc0, more),
+            moment,
+        },
+        Short::Learn(key, count) => learn(alloc, key, count)?,
+        Short::Copy(kind) => Step::Copy {
+            session,
+            table: T1.id,
+            kind,
+            limit: 512,
+            moment,
+        },
+        Short::Teach => Step::Teach { session },
+        Short::ToLearner(count) => deliver(Way::ToLearner, count),
+        Short::ToTeacher(count) => deliver(Way::ToTeacher, count),
+        Short::Ack => Step::Ack { session },
+        Short::Break => Step::Break { session },
+        Short::Reopen => Step::Reopen { session },
+        Short::BreakAnother => Step::Break { session: STRANGER },
+    })
+}
+
+/// Makes the steps one after another.
+fn after(alloc: Global, world: World, steps: &[Short]) -> Option<World> {
+    let mut world = world;
+    for short in steps {
+        let step = step_of(alloc, *short)?;
+        world = run(world, &[step]).ok()?;
+    }
+    Some(world)
+}
+
+fn is_told(update: &Update, told: &Told) -> bool {
+    let has_count = match update.values.as_slice() {
+        [Value::Count(count)] => *count == told.3,
+        _ => false,
+    };
+    has_count
+        && (update.table, update.number, update.life) == (T1.id, told.0, told.1)
+        && update.key.is_same(&Key::Int(told.2))
+}
+
+fn are_told(updates: &[Update], told: &[Told]) -> bool {
+    for (update, told) in updates.iter().zip(told) {
+        if !is_told(update, told) {
+            return false;
+        }
+    }
+    updates.len() == told.len()
+}
+
+fn are_batches(batches: &[Batch], copied: &[&[Told]]) -> bool {
+    for (batch, told) in batches.iter().zip(copied) {
+        if !are_told(batch.updates(), *told) {
+            return false;
+        }
+    }
+    batches.len() == copied.len()
+}
+
+/// Returns whether a row has this number and this count, was learned, and ends 30 s after the least moment.
+fn is_row(row: &Row, number: u32, count: u64) -> bool {
+    let has_count = match row.cells() {
+        [Cell::Count(found)] => *found == count,
+        _ => false,
+    };
+    let ends = match row.ends() {
+        Some(end) => end.milliseconds() == 4_294_997_296,
+        None => false,
+    };
+    has_count && ends && row.number() == number && row.is_learned()
+}
+
+fn has_rows(learner: &Learner, rows: &[(u32, u32, u64)]) -> Option<bool> {
+    let list = learner.rows(T1.id).ok()?;
+    for ((key, row), (wanted, number, count)) in list.iter().zip(rows) {
+        if !key.is_same(&Key::Int(*wanted)) || !is_row(row, *number, *count) {
+            return Some(false);
+        }
+    }
+    Some(list.len() == rows.len())
+}
+
+/// Returns whether the lists of the session have these updates.
+fn are_listed(world: &World, seen: &Seen) -> Option<bool> {
+    let (copied, taught) = (world.copied(SESSION)?, world.taught(SESSION)?);
+    Some(
+        are_batches(copied, seen.copied)
+            && are_told(taught, seen.taught)
+            && are_told(world.applied(SESSION)?, seen.applied),
+    )
+}
+
+/// Returns whether these bytes are on their way.
+fn are_sent(world: &World, seen: &Seen) -> Option<bool> {
+    let to_learner = world.pipe(SESSION, Way::ToLearner)?;
+    let to_teacher = world.pipe(SESSION, Way::ToTeacher)?;
+    Some(to_learner == seen.to_learner && to_teacher == seen.to_teacher)
+}
+
+fn is_seen(world: &World, seen: &Seen) -> Option<bool> {
+    Some(
+        are_listed(world, seen)?
+            && are_sent(world, seen)?
+            && has_rows(world.learner(SESSION)?, seen.rows)?
+            && world.cell(T1.id)?.events() == seen.events,
+    )
+}
+
+/// Makes a new world of `t1` and a session of this version.
+fn world(alloc: Global, version: Version) -> Option<World> {
+    let cell = TableCell::new(alloc, definition(alloc, &T1)?, 1_000_000, false, 1).ok()?;
+    let cells = vec![in alloc; cell].ok()?;
+    World::new(alloc, cells, vec![in alloc; version].ok()?).ok()
+}
+
+/// Returns the index of the first part after which something else is there; `None` if memory runs out.
+fn failing_part(alloc: Global, story: &Story) -> Option<Option<usize>> {
+    let mut world = world(alloc, story.0)?;
+    for (place, (steps, seen)) in story.1.iter().enumerate() {
+        world = after(alloc, world, *steps)?;
+        if !is_seen(&world, seen)? {
+            return Some(Some(place));
+        }
+    }
+    Some(None)
+}
+
+/// Plays each story in a new world. Returns the index of the first that fails, and that of its part.
+pub fn first_failing(alloc: Global, stories: &[Story]) -> Option<(usize, Option<usize>)> {
+    for (place, story) in stories.iter().enumerate() {
+        let failing = failing_part(alloc, story);
+        if failing != Some(None) {
+            return Some((place, failing.flatten()));
+        }
+    }
+    None
+}
+
+/// Adds 1 to key 1 this often, and breaks the connection then. Returns how many events the table had before and after it.
+fn events_at_a_break(alloc: Global, world: World, tracks: u32) -> Option<(u64, u64)> {
+    let mut world = world;
+    for _ in 0..tracks {
+        world = after(alloc, world, &[Short::Track(1, 1)])?;
+    }
+    let before = world.cell(T1.id)?.events();
+    let broken = after(alloc, world, &[Short::Break])?;
+    Some((before, broken.cell(T1.id)?.events()))
+}
+
+/// Returns how many events the table of a new world has after this many changes of a row, and after a break behind them.
+pub fn events_before_and_after(alloc: Global, tracks: u32) -> Option<(u64, u64)> {
+    events_at_a_break(alloc, world(alloc, Version::V21)?, tracks)
+}
