@@ -10,6 +10,7 @@ use crate::arcs::RequestArc;
 use crate::augmenting::augment;
 use crate::path_search::quick_search;
 use crate::plans::plan_of;
+use crate::settling::settle;
 use crate::spreading::later_ends;
 use crate::steps::Ends;
 use known_state::Plan;
@@ -77,6 +78,7 @@ fn add_slots(
         source: 0,
         target: arcs.len(),
     };
+    settle(alloc, ends, heights, room, arcs, later.as_slice())?;
     for _ in 0..count {
         if heights[ends.source] == heights[ends.target] {
             return Ok(());

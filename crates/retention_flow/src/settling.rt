@@ -76,19 +76,23 @@ fn over_place_before(
     over_place(heights, room, steps, node - 1)
 }
 
-/// Notes the distances of the nodes to which all arcs that begin at `node` lead, if that is the first node.
+/// Notes the distances of the nodes to which the arcs that begin at `node` lead, if that is the first node: those of
+/// requests before the one after `last`.
 fn note_from_first(
     heights: &[u64],
     arcs: &[RequestArc],
     steps: &[Option<Step>],
     target: usize,
     node: usize,
+    last: usize,
     found: &mut Distances,
 ) -> Result<(), Memory>
     requires back { GoBack arcs.now }
     requires little { SaveLittle arcs.now }
     requires small { (node : ℕ) → node < length heights.now → slice_index heights.now node ≤ 2 ^ 32 }
     requires long { (length heights.now ≡ length arcs.now + 1) × (length steps.now ≡ length arcs.now + 1) × (length found.old.least.items ≡ length arcs.now + 1) }
+    requires node { node < length arcs.now }
+    requires last { last < length arcs.now }
     requires calm { (node : ℕ) → node < length arcs.now → IsCalmArc heights.now node (arc_at arcs.now node) }
     requires target { target ≤ length arcs.now }
     ensures { IfOk result (λ done. length found.new.least.items ≡ length found.old.least.items) }
@@ -97,8 +101,9 @@ fn note_from_first(
         return Ok(());
     }
     let distance = found.least[node];
-    for (index, arc) in arcs.iter().enumerate() {
-        if arc.from == 0 {
+    for index in 0..last {
+        let from = arcs[index].from;
+        if from == node {
             let leaving = over_arc(heights, arcs, steps, index);
             note(leaving, distance, target, found)?;
         }
@@ -131,10 +136,10 @@ fn note_from(
     let distance = found.least[node];
     let before = over_place_before(heights, room, steps, node);
     note(before, distance, target, found)?;
-    note_from_first(heights, arcs, steps, target, node, found)?;
     if node == arcs.len() {
         return Ok(());
     }
+    note_from_first(heights, arcs, steps, target, node, later[node], found)?;
     let over = over_arc(heights, arcs, steps, node);
     note(over, distance, target, found)?;
     let on = over_arc(heights, arcs, steps, later[node]);

@@ -133,12 +133,13 @@ fn reach_over_arc(
     Ok(())
 }
 
-/// Reaches nodes over all arcs that begin at `node`, if that is the first node and the slack is 0. There one arc begins
-/// for each name held at the start, at any other node at most one.
+/// Reaches nodes over the arcs that begin at `node`, if that is the first node and the slack is 0: over those of requests
+/// before the one after `last`. There one arc begins for each name held at the start, at any other node at most one.
 fn reach_from_first(
     heights: &[u64],
     arcs: &[RequestArc],
     node: usize,
+    last: usize,
     steps: &mut [Option<Step>],
     order: &mut Vec<usize>,
 ) -> Result<(), Memory>
@@ -146,6 +147,7 @@ fn reach_from_first(
     requires little { SaveLittle arcs.now }
     requires small { (node : ℕ) → node < length heights.now → slice_index heights.now node ≤ 2 ^ 32 }
     requires long { (length heights.now ≡ length arcs.now + 1) × (length steps.old ≡ length arcs.now + 1) }
+    requires last { last < length arcs.now }
     requires calm { (node : ℕ) → node < length arcs.now → IsCalmArc heights.now node (arc_at arcs.now node) }
     ensures grows { IfOk result (λ done. length order.old.items ≤ length order.new.items) }
     ensures spread { IfOk result (λ done. (room : List ℕ) → (source : ℕ) → IsSpread heights.now room arcs.now steps.old source order.old.items → IsSpread heights.now room arcs.now steps.new source order.new.items) }
@@ -153,8 +155,9 @@ fn reach_from_first(
     if node > 0 {
         return Ok(());
     }
-    for (index, arc) in arcs.iter().enumerate() {
-        if arc.from == 0 {
+    for index in 0..last {
+        let from = arcs[index].from;
+        if from == node {
             reach_over_arc(heights, arcs, index, steps, order)?;
         }
     }
@@ -183,10 +186,10 @@ fn spread_from(
     ensures spread { IfOk result (λ done. (source : ℕ) → IsSpread heights.now room.now arcs.now steps.old source order.old.items → IsSpread heights.now room.now arcs.now steps.new source order.new.items) }
 {
     reach_before(heights, room, arcs, node, steps, order)?;
-    reach_from_first(heights, arcs, node, steps, order)?;
     if node == arcs.len() {
         return Ok(());
     }
+    reach_from_first(heights, arcs, node, later[node], steps, order)?;
     reach_over_arc(heights, arcs, node, steps, order)?;
     reach_over_arc(heights, arcs, later[node], steps, order)?;
     reach_over_place(heights, room, arcs, node, steps, order)?;

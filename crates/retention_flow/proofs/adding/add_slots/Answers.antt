@@ -8,8 +8,8 @@ use Rattle.retention_flow.proofs.adding.add_slots.Goals as goal
 
 pub loop-init : goal.loop-init
 loop-init c = record {
-  calm = c.requires.calm;
-  low = c.requires.low;
+  calm = c.in_ok-settle.ensures.calm;
+  low = omega (arith, c.in_ok-settle.ensures.target, c.requires.low);
   back = c.requires.back;
   little = c.requires.little;
   many = refl;
@@ -34,7 +34,7 @@ quick_search-requires-clause-low c =
 pub quick_search-requires-clause-later : goal.quick_search-requires-clause-later
 quick_search-requires-clause-later c =
     let many = length c.loop.arcs in
-    subst (λ (l : List ℕ). (length l ≡ many) × ((node : ℕ) → node < many → slice_index l node < many)) (sym c.as_slice.ensures.value) c.loop.invariant.later
+    subst (λ (l : List ℕ). (length l ≡ many) × ((node : ℕ) → node < many → slice_index l node < many)) (sym c.as_slice-in-loop.ensures.value) c.loop.invariant.later
 
 pub augment-requires-clause-back : goal.augment-requires-clause-back
 augment-requires-clause-back c = c.loop.invariant.back
@@ -85,3 +85,11 @@ returns-then-heights-ends-clause-small c =
 pub returns-clause-small : goal.returns-clause-small
 returns-clause-small c =
     low_from_last c.loop.room c.loop.arcs (length c.args.arcs.now) (slice_index c.loop.heights (length c.args.arcs.now)) (sym c.loop.invariant.many) c.loop.invariant.low c.loop.heights c.loop.invariant.calm refl
+
+pub settle-requires-clause-small : goal.settle-requires-clause-small
+settle-requires-clause-small c = λ node below. omega (arith, low_from_last c.args.room.now c.args.arcs.now (length c.args.arcs.now) (slice_index c.args.heights.now (length c.args.arcs.now)) refl c.requires.low c.args.heights.now c.requires.calm refl node below)
+
+pub settle-requires-clause-later : goal.settle-requires-clause-later
+settle-requires-clause-later c =
+    let many = length c.args.arcs.now in
+    subst (λ (l : List ℕ). (length l ≡ many) × ((node : ℕ) → node < many → slice_index l node < many)) (sym c.as_slice.ensures.value) (c.in_ok-later.ensures.long, c.in_ok-later.ensures.within)

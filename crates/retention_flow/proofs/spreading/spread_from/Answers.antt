@@ -17,7 +17,7 @@ reach_over_arc-requires-2-clause-calm c =
 
 pub returns-then-node-arcs-clause-spread : goal.returns-then-node-arcs-clause-spread
 returns-then-node-arcs-clause-spread c = λ source spread.
-    c.in_ok-reach_from_first.ensures.spread c.args.room.now source (c.in_ok-reach_before.ensures.spread source spread)
+    c.in_ok-reach_before.ensures.spread source spread
 
 pub returns-clause-spread : goal.returns-clause-spread
 returns-clause-spread c = λ source spread.
