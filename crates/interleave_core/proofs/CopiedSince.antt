@@ -1,13 +1,11 @@
 -- What is put was copied since the connection was new.
-use Rattle.std.proofs.Common.{◌≡◌, ◌≢◌, ◌<◌, ◌≤◌, ◌^◌, ℕ, true, false, List, [], ◌∷◌, ◌++◌, length, drop, take, Option, Some, None, Result, Ok, Err, refl, sym, ap, subst, ◌∙◌, inl, inr, ◌⊎◌, append_assoc, append-nil}
+use Rattle.std.proofs.Common.{◌≡◌, ◌≢◌, ◌<◌, ◌^◌, ℕ, List, [], ◌∷◌, ◌++◌, length, drop, take, Option, Some, None, Ok, Err, refl, sym, ap, subst, ◌∙◌, inl, inr, ◌⊎◌, append_assoc, append-nil}
 use Rattle.std.specs.Prelude.{filter_map, nat_le}
 use Rattle.std.specs.List.{AllByRecursion, list_any}
 use Rattle.table_types.specs.declared.copies.CopyKind.{CopyKind}
-use Rattle.table_types.specs.declared.key.Key.{Key}
 use Rattle.table_types.specs.declared.update.Update.{Update}
-use Rattle.table_types.specs.Rows.{StoredRow}
+use Rattle.table_types.specs.declared.version.Version.{Version}
 use Rattle.table_types.specs.Tables.{Definition}
-use Rattle.learner.specs.Rows.{row_at, rows_at}
 use Rattle.table_cell.specs.declared.events.CellEvent.{CellEvent}
 use Rattle.table_cell.specs.declared.events.CellEvent.TheVariants as events
 use Rattle.table_cell.specs.declared.events.CellReply.{CellReply}
@@ -17,9 +15,8 @@ use Rattle.table_cell.specs.Histories.{CellState, Made}
 use Rattle.interleave_core.specs.declared.step.Step.{Step}
 use Rattle.interleave_core.specs.declared.step.Step.TheVariants as steps
 use Rattle.interleave_core.specs.declared.way.Way.TheVariants as ways
-use Rattle.interleave_core.specs.Core.{IsOfCopied}
 use Rattle.interleave_core.specs.Moves.{ArrivesAtTeacher, AtConnection, AtTable, Breaks, CopiesFor, InConnection, InTable, IsArrived, IsFed, IsReadBy, IsReopened, LearnsFor, Moves, Reopens, RunsTo, TeachesOldest, ack_in, acked_all, is_made, reopened_all}
-use Rattle.interleave_core.specs.Since.{HasNewConnection, HasSince, RowsAreCopiedSince}
+use Rattle.interleave_core.specs.Since.{HasNewConnection, RowsAreCopiedSince}
 use Rattle.interleave_core.specs.SoundWorlds.{IsSoundWorld, IsTimelyStep}
 use Rattle.interleave_core.specs.Ties.{WasCopied, joined, of_table}
 use Rattle.interleave_core.specs.Worlds.{ConnectionState, WorldState, cell_at, connection_at, new_connection, roster_of, with_cell, with_connection}
@@ -67,15 +64,15 @@ grow_acked n (ack ∷ acks) cells after all =
     grow_on cells (with_cell ack.0 e cells) after (grow_made ack.0 c e (events.Ack n ack.1) (replies.Ack (settled_by (progress_of n c.state) ack.1)) cells at (acked_made n ack.1 c e is))
     (grow_acked n acks (with_cell ack.0 e cells) after later)
 
-grow_reopened : (n : ℕ) (cells after : List CellState) → reopened_all n cells ≡ Some after → Grow cells after
-grow_reopened n cells after all t x at =
-    let (c, found, (mid, closing, opening)) = each_reopened n cells after all t x at in (
+grow_reopened : (n : ℕ) (v : Version) (cells after : List CellState) → reopened_all n v cells ≡ Some after → Grow cells after
+grow_reopened n v cells after all t x at =
+    let (c, found, (mid, closing, opening)) = each_reopened n v cells after all t x at in (
       c,
-      (events.Close n, replies.Close) ∷ (events.Open n, replies.Open) ∷ [],
+      (events.Close n, replies.Close) ∷ (events.Open n v, replies.Open) ∷ [],
       found,
-      made_history mid x (events.Open n) replies.Open opening
-          ∙ ap (λ (l : List (CellEvent × CellReply)). l ++ (events.Open n, replies.Open) ∷ []) (made_history c mid (events.Close n) replies.Close closing)
-          ∙ append_assoc c.history ((events.Close n, replies.Close) ∷ []) ((events.Open n, replies.Open) ∷ []),
+      made_history mid x (events.Open n v) replies.Open opening
+          ∙ ap (λ (l : List (CellEvent × CellReply)). l ++ (events.Open n v, replies.Open) ∷ []) (made_history c mid (events.Close n) replies.Close closing)
+          ∙ append_assoc c.history ((events.Close n, replies.Close) ∷ []) ((events.Open n v, replies.Open) ∷ []),
     )
 
 -- ---- copies among the events since then
@@ -254,22 +251,22 @@ to_teacher n m begun count (Some s) w e since found moves =
 
 breaks : (n m : ℕ) (begun : List CellState) (o : Option ConnectionState) (w e : WorldState) → IsSince n begun w → Breaks m o w e → IsSince n begun e
 breaks n m begun None w e since same = unchanged n begun w e since same
-breaks n m begun (Some s) w e since moves = by (reopened_all m w.cells) refl moves
+breaks n m begun (Some s) w e since moves = by (reopened_all m s.version w.cells) refl moves
   where
-    by : (o : Option (List CellState)) → reopened_all m w.cells ≡ o
-        → IsReopened o (λ cells. record { cells = cells; connections = with_connection m (new_connection (roster_of w.cells)) w.connections }) w e → IsSince n begun e
+    by : (o : Option (List CellState)) → reopened_all m s.version w.cells ≡ o
+        → IsReopened o (λ cells. record { cells = cells; connections = with_connection m (new_connection s.version (roster_of w.cells)) w.connections }) w e → IsSince n begun e
     by None all same = unchanged n begun w e since same
-    by (Some after) all is = subst (IsSince n begun) (sym is) (one_changed n m begun w (new_connection (roster_of w.cells)) after since (grow_reopened m w.cells after all) (inl refl))
+    by (Some after) all is = subst (IsSince n begun) (sym is) (one_changed n m begun w (new_connection s.version (roster_of w.cells)) after since (grow_reopened m s.version w.cells after all) (inl refl))
 
 reopens : (n m : ℕ) (begun : List CellState) (o : Option ConnectionState) (w e : WorldState) → IsSince n begun w → Reopens m o w e → IsSince n begun e
 reopens n m begun None w e since same = unchanged n begun w e since same
 reopens n m begun (Some s) w e since moves =
-    each_side (list_any (λ (c : CellState). has_out (progress_of m c.state)) w.cells) (e ≡ w) (IsReopened (reopened_all m w.cells) (λ cells. record w { cells = cells }) w e) (IsSince n begun e) moves
-    (λ out. unchanged n begun w e since) (λ quiet. by (reopened_all m w.cells) refl)
+    each_side (list_any (λ (c : CellState). has_out (progress_of m c.state)) w.cells) (e ≡ w) (IsReopened (reopened_all m s.version w.cells) (λ cells. record w { cells = cells }) w e) (IsSince n begun e) moves
+    (λ out. unchanged n begun w e since) (λ quiet. by (reopened_all m s.version w.cells) refl)
   where
-    by : (o : Option (List CellState)) → reopened_all m w.cells ≡ o → IsReopened o (λ cells. record w { cells = cells }) w e → IsSince n begun e
+    by : (o : Option (List CellState)) → reopened_all m s.version w.cells ≡ o → IsReopened o (λ cells. record w { cells = cells }) w e → IsSince n begun e
     by None all same = unchanged n begun w e since same
-    by (Some after) all is = subst (IsSince n begun) (sym is) (tables_grow n begun w after since (grow_reopened m w.cells after all))
+    by (Some after) all is = subst (IsSince n begun) (sym is) (tables_grow n begun w after since (grow_reopened m s.version w.cells after all))
 
 learns : (n m : ℕ) (begun : List CellState) (u : Update) (now : ℕ) (o : Option ConnectionState) (w e : WorldState) → now < 2 ^ 63 → IsSince n begun w → LearnsFor m u now o w e → IsSince n begun e
 learns n m begun u now None w e timely since same = unchanged n begun w e since same
@@ -296,10 +293,10 @@ since_run n begun w e (step ∷ run) (one, rest) since (mid, moves, runs) = sinc
 -- ---- the beginning, and the rows
 
 since_new : (n : ℕ) (w : WorldState) → HasNewConnection n w → IsSince n w.cells w
-since_new n w new = record {
+since_new n w (version, new) = record {
   grow = grow_same w.cells;
   copied = λ s found t c at.
-      subst (λ (x : ConnectionState). IsBehind n w.cells t c (of_table t (all_of x))) (same_one (new_connection (roster_of w.cells)) s (sym new ∙ found))
+      subst (λ (x : ConnectionState). IsBehind n w.cells t c (of_table t (all_of x))) (same_one (new_connection version (roster_of w.cells)) s (sym new ∙ found))
       (c, [], at, sym (append-nil c.history), tt);
 }
 
@@ -307,16 +304,16 @@ since_new n w new = record {
 pub new_when_broken : (w e : WorldState) (n : ℕ) → IsSoundWorld w → Moves w (steps.Break n) e → (e ≡ w) ⊎ HasNewConnection n e
 new_when_broken w e n sound moves = by (connection_at n w.connections) refl moves
   where
-    then : (s : ConnectionState) → connection_at n w.connections ≡ Some s → (o : Option (List CellState)) → reopened_all n w.cells ≡ o
-        → IsReopened o (λ cells. record { cells = cells; connections = with_connection n (new_connection (roster_of w.cells)) w.connections }) w e → (e ≡ w) ⊎ HasNewConnection n e
+    then : (s : ConnectionState) → connection_at n w.connections ≡ Some s → (o : Option (List CellState)) → reopened_all n s.version w.cells ≡ o
+        → IsReopened o (λ cells. record { cells = cells; connections = with_connection n (new_connection s.version (roster_of w.cells)) w.connections }) w e → (e ≡ w) ⊎ HasNewConnection n e
     then s found None all same = inl same
     then s found (Some after) all is =
         inr (subst (HasNewConnection n) (sym is)
-        (connection_set n (new_connection (roster_of w.cells)) s w.connections found ∙ ap (λ (ds : List Definition). Some (new_connection ds)) (sym (tables_reopened n w.cells after all sound.tables).1)))
+        (s.version, connection_set n (new_connection s.version (roster_of w.cells)) s w.connections found ∙ ap (λ (ds : List Definition). Some (new_connection s.version ds)) (sym (tables_reopened n s.version w.cells after all sound.tables).1)))
 
     by : (o : Option ConnectionState) → connection_at n w.connections ≡ o → Breaks n o w e → (e ≡ w) ⊎ HasNewConnection n e
     by None found same = inl same
-    by (Some s) found broken = then s found (reopened_all n w.cells) refl broken
+    by (Some s) found broken = then s found (reopened_all n s.version w.cells) refl broken
 
 all_front : (P : Update → Type 0) (us vs : List Update) → AllByRecursion P (us ++ vs) → AllByRecursion P us
 all_front P [] vs all = tt

@@ -1,5 +1,5 @@
 -- What a copy does to a world.
-use Rattle.std.proofs.Common.{◌≡◌, ◌≢◌, ◌≤◌, ℕ, zero, suc, ◌<◌, ◌&&◌, Bool, true, List, [], ◌∷◌, ◌++◌, get_or, length, set, nat_le, MatchBool, Option, Some, Result, Ok, Err, refl, sym, ap, subst, ◌∙◌, arith, le-leb, true≢false}
+use Rattle.std.proofs.Common.{◌≡◌, ◌≢◌, ◌≤◌, ℕ, zero, suc, ◌<◌, Bool, true, List, [], ◌∷◌, ◌++◌, get_or, length, set, nat_le, MatchBool, Option, Some, Result, Ok, Err, refl, sym, ap, subst, ◌∙◌, arith, le-leb, true≢false}
 use Rattle.std.proofs.lemmas.Bool.{and_from, and_parts, leb-true}
 use Rattle.std.proofs.lemmas.List.{set-get_or}
 use Rattle.table_types.specs.declared.copies.CopyKind.{CopyKind}
@@ -20,16 +20,16 @@ world_with cells cs = record { cells = cells; connections = connections_of cs }
 
 -- ---- which copies are made
 
--- a push or a resync of 1 to 512 rows is made
-pub made_within : (kind : CopyKind) (limit : ℕ) → kind ≢ kinds.Standing → 1 ≤ limit → limit ≤ 512 → is_made kind limit ≡ true
-made_within kinds.Push limit other least most = and_from (nat_le 1 limit) (nat_le limit 512) (le-leb 1 limit least) (le-leb limit 512 most)
-made_within kinds.Resync limit other least most = and_from (nat_le 1 limit) (nat_le limit 512) (le-leb 1 limit least) (le-leb limit 512 most)
+-- a push or a resync of 1 to 4096 rows is made
+pub made_within : (kind : CopyKind) (limit : ℕ) → kind ≢ kinds.Standing → 1 ≤ limit → limit ≤ 4096 → is_made kind limit ≡ true
+made_within kinds.Push limit other least most = and_from (nat_le 1 limit) (nat_le limit 4096) (le-leb 1 limit least) (le-leb limit 4096 most)
+made_within kinds.Resync limit other least most = and_from (nat_le 1 limit) (nat_le limit 4096) (le-leb 1 limit least) (le-leb limit 4096 most)
 made_within kinds.Standing limit other least most = absurd (other refl)
 
--- a copy that is made has 512 rows at most
-pub made_most : (kind : CopyKind) (limit : ℕ) → is_made kind limit ≡ true → limit ≤ 512
-made_most kinds.Push limit made = leb-true limit 512 (and_parts (nat_le 1 limit) (nat_le limit 512) made).1
-made_most kinds.Resync limit made = leb-true limit 512 (and_parts (nat_le 1 limit) (nat_le limit 512) made).1
+-- a copy that is made has 4096 rows at most
+pub made_most : (kind : CopyKind) (limit : ℕ) → is_made kind limit ≡ true → limit ≤ 4096
+made_most kinds.Push limit made = leb-true limit 4096 (and_parts (nat_le 1 limit) (nat_le limit 4096) made).1
+made_most kinds.Resync limit made = leb-true limit 4096 (and_parts (nat_le 1 limit) (nat_le limit 4096) made).1
 made_most kinds.Standing limit made = absurd (true≢false (sym made))
 
 -- ---- what a table is asked for

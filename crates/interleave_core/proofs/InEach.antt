@@ -2,6 +2,7 @@
 use Rattle.std.proofs.Common.{◌≡◌, ◌≢◌, ◌≤◌, ◌<◌, ℕ, ◌+◌, List, [], ◌∷◌, ◌++◌, length, map, take, drop, get_or, set, Option, Some, None, Result, Ok, Err, refl, sym, ap, subst, ◌∙◌, arith, append_assoc, append-nil}
 use Rattle.std.specs.List.{AllByRecursion}
 use Rattle.std.proofs.lemmas.List.{drop_more, drop_all, drop-set-lt, take_all, take_more_set}
+use Rattle.table_types.specs.declared.version.Version.{Version}
 use Rattle.table_cell.specs.declared.errors.CloseError.{CloseError}
 use Rattle.table_cell.specs.declared.errors.CloseError.TheVariants as unclosed
 use Rattle.table_cell.specs.declared.errors.OpenError.{OpenError}
@@ -17,13 +18,13 @@ absent : {E : Type 0} (o : Option E) (error : E) → o ≡ None → o ≡ Some e
 absent o error none some = cc
 
 -- a table that doesn't refuse to open the session has opened it, unless memory ran out
-pub opens_it : (session : ℕ) (c e : CellState) (r : Result (Unit {0}) OpenError) → r ≢ Err unopened.Memory → Opens c session r e → CanOpen session c → e ≡ with_session session c
-opens_it session c e (Ok done) unless (room, (made, is)) can =
-    is ∙ ap (λ (s : TableState). record c { history = (with_session session c).history; state = s }) made.2
-opens_it session c e (Err unopened.AlreadyOpen) unless (refused, is) can = absurd (absent (open_refusal (is_history_full c) c.state session) unopened.AlreadyOpen can refused)
-opens_it session c e (Err unopened.TooMany) unless (refused, is) can = absurd (absent (open_refusal (is_history_full c) c.state session) unopened.TooMany can refused)
-opens_it session c e (Err unopened.HistoryFull) unless (refused, is) can = absurd (absent (open_refusal (is_history_full c) c.state session) unopened.HistoryFull can refused)
-opens_it session c e (Err unopened.Memory) unless did can = absurd (unless refl)
+pub opens_it : (session : ℕ) (version : Version) (c e : CellState) (r : Result (Unit {0}) OpenError) → r ≢ Err unopened.Memory → Opens c session version r e → CanOpen session c → e ≡ with_session session version c
+opens_it session version c e (Ok done) unless (room, (made, is)) can =
+    is ∙ ap (λ (s : TableState). record c { history = (with_session session version c).history; state = s }) made.2
+opens_it session version c e (Err unopened.AlreadyOpen) unless (refused, is) can = absurd (absent (open_refusal (is_history_full c) c.state session) unopened.AlreadyOpen can refused)
+opens_it session version c e (Err unopened.TooMany) unless (refused, is) can = absurd (absent (open_refusal (is_history_full c) c.state session) unopened.TooMany can refused)
+opens_it session version c e (Err unopened.HistoryFull) unless (refused, is) can = absurd (absent (open_refusal (is_history_full c) c.state session) unopened.HistoryFull can refused)
+opens_it session version c e (Err unopened.Memory) unless did can = absurd (unless refl)
 
 pub closes_it : (session : ℕ) (c e : CellState) (r : Result (Unit {0}) CloseError) → r ≢ Err unclosed.Memory → Closes c session r e → CanClose session c → e ≡ without_session session c
 closes_it session c e (Ok done) unless (room, (made, is)) can =

@@ -1,7 +1,8 @@
 -- A world in order stays so.
-use Rattle.std.proofs.Common.{◌≡◌, ◌∙◌, ◌≤◌, ◌++◌, ◌∷◌, [], ℕ, List, None, ap, arith, drop, length, map, replicate, subst, sym}
+use Rattle.std.proofs.Common.{◌≡◌, ◌∙◌, ◌≤◌, ◌++◌, ◌∷◌, [], ℕ, List, None, ap, arith, drop, length, map, subst, sym, take}
 use Rattle.std.specs.List.{AllByRecursion}
-use Rattle.std.proofs.lemmas.List.{drop_all}
+use Rattle.std.proofs.lemmas.List.{drop_all, take_all}
+use Rattle.table_types.specs.declared.version.Version.{Version}
 use Rattle.table_types.specs.Rosters.{roster_fault}
 use Rattle.table_cell.specs.Histories.{CellState, IsSoundCell}
 use Rattle.table_cell.proofs.HandingRows.{all_front}
@@ -11,18 +12,19 @@ use Rattle.interleave_core.specs.Moves.{Moves, RunsTo}
 use Rattle.interleave_core.specs.Opened.{CanBegin, IsInOrder}
 use Rattle.interleave_core.specs.Since.{HasNewConnection, RowsAreCopiedSince}
 use Rattle.interleave_core.specs.SoundWorlds.{IsSoundWorld, IsTimelyStep}
-use Rattle.interleave_core.specs.Worlds.{ConnectionState, WorldState, new_connection, new_world, roster_of, with_sessions}
-use Rattle.interleave_core.proofs.Beginning.{new_is_open}
+use Rattle.interleave_core.specs.Worlds.{ConnectionState, WorldState, new_world, roster_of, with_sessions}
+use Rattle.interleave_core.proofs.Beginning.{new_connections, new_is_open}
 use Rattle.interleave_core.proofs.CopiedSince.{rows_since}
 use Rattle.interleave_core.proofs.OpenWorlds.{a_step_keeps_open}
 use Rattle.interleave_core.proofs.Running.{LeadsOn, led}
+use Rattle.interleave_core.proofs.Spoken.{new_spoken, spoken_step}
 use Rattle.interleave_core.proofs.WorldNew.{new_world_sound}
 use Rattle.interleave_core.proofs.WorldSteps.{between_sound, run_sound, step_sound}
 use Rattle.interleave_core.proofs.WorldTold.{core_of}
 
 -- after a step
 pub in_order_next : (w e : WorldState) (step : Step) → IsTimelyStep step → Moves w step e → IsInOrder w → IsInOrder e
-in_order_next w e step timely moves order = record { opened = a_step_keeps_open w e step moves order.opened; sound = step_sound w e step timely order.sound moves }
+in_order_next w e step timely moves order = record { opened = a_step_keeps_open w e step moves order.opened; sound = step_sound w e step timely order.sound moves; spoken = spoken_step w e step timely order.spoken moves }
 
 -- ---- a run
 
@@ -65,14 +67,14 @@ copied_since start steps i past sound timely first more rest begun mid session i
 abbrev world : List CellState → List ConnectionState → WorldState
 world tables connections = record { cells = tables; connections = connections }
 
-pub new_in_order : (count n : ℕ) (cells tables : List CellState) (connections : List ConnectionState) → n ≤ count → count ≤ n
-    → tables ≡ map (with_sessions n) cells → connections ≡ replicate n (new_connection (roster_of cells)) → count ≤ 16 → roster_fault (roster_of cells) ≡ None
-    → AllByRecursion IsSoundCell cells → AllByRecursion (CanBegin count) cells → IsInOrder (record { cells = tables; connections = connections })
-new_in_order count n cells tables connections most least opened connected few faultless sound begin =
-    let all : n ≡ count = omega (arith, most, least) in
-    let is : world tables connections ≡ new_world cells count =
+pub new_in_order : (vs : List Version) (n : ℕ) (cells tables : List CellState) (connections : List ConnectionState) → length vs ≤ n → n ≤ length vs
+    → tables ≡ map (with_sessions n vs) cells → connections ≡ new_connections (roster_of cells) (take n vs) → length vs ≤ 16 → roster_fault (roster_of cells) ≡ None
+    → AllByRecursion IsSoundCell cells → AllByRecursion (CanBegin (length vs)) cells → IsInOrder (record { cells = tables; connections = connections })
+new_in_order vs n cells tables connections least most opened connected few faultless sound begin =
+    let all : n ≡ length vs = omega (arith, most, least) in
+    let is : world tables connections ≡ new_world cells vs =
     ap (λ (ts : List CellState). world ts connections) opened
-    ∙ ap (λ (cs : List ConnectionState). world (map (with_sessions n) cells) cs) connected
-    ∙ ap (λ (m : ℕ). world (map (with_sessions m) cells) (replicate m (new_connection (roster_of cells)))) all in
+    ∙ ap (λ (cs : List ConnectionState). world (map (with_sessions n vs) cells) cs) (connected ∙ ap (new_connections (roster_of cells)) (take_all n vs least))
+    ∙ ap (λ (m : ℕ). world (map (with_sessions m vs) cells) (new_connections (roster_of cells) vs)) all in
     subst (λ (x : WorldState). IsInOrder x) (sym is)
-    (record { opened = new_is_open count cells few begin; sound = new_world_sound cells count few faultless sound begin })
+    (record { opened = new_is_open vs cells few begin; sound = new_world_sound cells vs few faultless sound begin; spoken = new_spoken cells vs begin })

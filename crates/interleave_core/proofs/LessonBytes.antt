@@ -1,6 +1,6 @@
 -- A shortest lesson has bytes alone if the names of its tables, and the keys and names of its updates, have.
-use Rattle.std.proofs.Common.{◌≡◌, ℕ, ◌+◌, ◌≤◌, ◌<◌, ◌^◌, Bool, true, false, not, ◌&&◌, List, [], ◌∷◌, ◌++◌, length, Option, Some, None, refl, sym, ap, subst, ◌∙◌, inl, inr, ◌⊎◌, arith, length-append}
-use Rattle.std.specs.Prelude.{cond, filter, nat_lt, nat_le, ◌==◌, if◌then◌else◌}
+use Rattle.std.proofs.Common.{◌≡◌, ℕ, ◌≤◌, ◌<◌, ◌^◌, Bool, true, false, not, ◌&&◌, List, [], ◌∷◌, ◌++◌, length, Option, Some, None, sym, ap, subst, ◌∙◌, inl, inr, ◌⊎◌, arith, length-append}
+use Rattle.std.specs.Prelude.{filter, nat_lt, nat_le, ◌==◌}
 use Rattle.std.specs.List.{AllByRecursion, flat_map, list_all}
 use Rattle.std.proofs.lemmas.Bool.{and_parts, cases_Bool, cond-true, cond-false, cond_both, leb-true, ltb-true}
 use Rattle.std.proofs.lemmas.Bool.Decides.{nat_tests}
@@ -37,7 +37,7 @@ use Rattle.peers_msg.specs.Received.{Received, selected_table}
 use Rattle.peers_msg.specs.Spelling.{bits_of, control_type, counted, data_of, definition_text, error_type, framed, key_text, name_text, optional_word, period_text, size_of, size_of_all, spelled, stream_of, update_text, update_type, value_text, word}
 use Rattle.peers_msg.proofs.DataLengths.{bits_small, types_rise}
 use Rattle.known_state.specs.Known.{KnownState}
-use Rattle.known_state.specs.State.{IsOwn, Legal, Named, State, Step, Teaches}
+use Rattle.known_state.specs.State.{IsOwn, Named, State, Step, Teaches}
 use Rattle.teach_writer.specs.Lessons.{IsShortestLesson}
 use Rattle.interleave_core.specs.Bytes.{IsKeyOfBytes, IsNamedInBytes, IsNameOfBytes, IsOfBytes}
 use Rattle.interleave_core.proofs.AcksOnTheirWay.{bytes_cons, no_bytes, word_bytes}

@@ -6,6 +6,7 @@ use Rattle.table_types.specs.declared.update.Update.{Update}
 use Rattle.table_types.specs.Batches.{IsBatchFor}
 use Rattle.table_types.specs.Rosters.{roster_fault}
 use Rattle.table_types.specs.Tables.{Definition}
+use Rattle.table_types.specs.declared.version.Version.{Version}
 use Rattle.known_state.specs.Known.{KnownState}
 use Rattle.known_state.specs.Lessons.{IsLessonFor}
 use Rattle.known_state.specs.State.{Legal}
@@ -88,8 +89,8 @@ copied roster s batch track good = record { known = track.known; learner = track
 -- ---- the beginning and the end
 
 -- nothing is on its way
-pub begun : (roster : List Definition) → roster_fault roster ≡ None → IsOnTrack roster (new_connection roster)
-begun roster sound =
+pub begun : (v : Version) (roster : List Definition) → roster_fault roster ≡ None → IsOnTrack roster (new_connection v roster)
+begun v roster sound =
     record {
       known = refl;
       learner = refl;

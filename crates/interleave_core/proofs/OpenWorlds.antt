@@ -26,6 +26,7 @@ use Rattle.interleave_core.specs.declared.step.Step.{Step}
 use Rattle.interleave_core.specs.declared.step.Step.TheVariants as steps
 use Rattle.interleave_core.specs.declared.way.Way.TheVariants as ways
 use Rattle.interleave_core.specs.Moves.{ArrivesAtLearner, ArrivesAtTeacher, AtConnection, AtTable, Breaks, Calls, CopiesFor, InConnection, InTable, IsArrived, IsReadBy, IsReopened, LearnsFor, Moves, Reopens, RunsTo, TeachesOldest, ack_in, acked, acked_all, acknowledges, closed, is_made, opened, reopened_all, with_batch}
+use Rattle.table_types.specs.declared.version.Version.{Version}
 use Rattle.interleave_core.specs.Opened.{HasOpen, IsOpenWorld}
 use Rattle.interleave_core.specs.Worlds.{ConnectionState, WorldState, cell_at, connection_at, is_table, new_connection, roster_of, with_cell, with_connection, with_session, with_session_anew, without_session}
 use Rattle.interleave_core.proofs.Reopening.{others_fewer, two_passed}
@@ -158,18 +159,18 @@ some_more n m p es some = elim (cases_eq m n) [
 pub some_opened : (n : ℕ) (p : Progress) (es : List (ℕ × Progress)) → is_some (lookup (λ id. id == n) (es ++ (n, p) ∷ [])) ≡ true
 some_opened n p es = some_end n n p es refl
 
-anew_stays : (c : CellState) (session : ℕ) → is_some (progress_of session c.state) ≡ true → Stays c (with_session_anew session c)
-anew_stays c session is_open =
+anew_stays : (c : CellState) (session : ℕ) (v : Version) → is_some (progress_of session c.state) ≡ true → Stays c (with_session_anew session v c)
+anew_stays c session v is_open =
     record {
       opened = still;
-      few = omega (arith, others_fewer session c.state.sessions is_open, length_push (filter (λ (entry : ℕ × Progress). not (entry.0 == session)) c.state.sessions) (session, no_progress c.state.next));
+      few = omega (arith, others_fewer session c.state.sessions is_open, length_push (filter (λ (entry : ℕ × Progress). not (entry.0 == session)) c.state.sessions) (session, no_progress v c.state.next));
     }
   where
-    still : (n : ℕ) → is_some (progress_of n c.state) ≡ true → is_some (progress_of n (with_session_anew session c).state) ≡ true
+    still : (n : ℕ) → is_some (progress_of n c.state) ≡ true → is_some (progress_of n (with_session_anew session v c).state) ≡ true
     still n some = elim (cases_eq session n) [
-      | inl same ↦ some_end n session (no_progress c.state.next) (filter (λ (entry : ℕ × Progress). not (entry.0 == session)) c.state.sessions) same
+      | inl same ↦ some_end n session (no_progress v c.state.next) (filter (λ (entry : ℕ × Progress). not (entry.0 == session)) c.state.sessions) same
       | inr other ↦
-          some_more n session (no_progress c.state.next) (filter (λ (entry : ℕ × Progress). not (entry.0 == session)) c.state.sessions)
+          some_more n session (no_progress v c.state.next) (filter (λ (entry : ℕ × Progress). not (entry.0 == session)) c.state.sessions)
           (ap (λ (o : Option Progress). is_some o) (other_without n session c.state.sessions (ne_eqb session n other)) ∙ some)
     ]
 
@@ -177,17 +178,17 @@ open_before : (o : Option Progress) → is_none o ≡ false → is_some o ≡ tr
 open_before None none = absurd (true≢false none)
 open_before (Some p) none = refl
 
-opened_stays : (c m e : CellState) (session : ℕ) → closed session c ≡ Some m → opened session m ≡ Some e → Stays c e
-opened_stays c m e session closes opens =
+opened_stays : (c m e : CellState) (session : ℕ) (v : Version) → closed session c ≡ Some m → opened session v m ≡ Some e → Stays c e
+opened_stays c m e session v closes opens =
     let closing = granted_one (is_none (close_refusal (is_history_full c) c.state session)) (without_session session c) m closes in
-    let opening = granted_one (is_none (open_refusal (is_history_full m) m.state session)) (with_session session m) e opens in
+    let opening = granted_one (is_none (open_refusal (is_history_full m) m.state session)) (with_session session v m) e opens in
     let tested = two_passed (is_none (progress_of session c.state)) (is_history_full c) unclosed.NoSession unclosed.HistoryFull closing.0 in
-    let is_anew : e ≡ with_session_anew session c = opening.1 ∙ ap (λ (x : CellState). with_session session x) closing.1 in
-    subst (λ (x : CellState). Stays c x) (sym is_anew) (anew_stays c session (open_before (progress_of session c.state) tested.0))
+    let is_anew : e ≡ with_session_anew session v c = opening.1 ∙ ap (λ (x : CellState). with_session session v x) closing.1 in
+    subst (λ (x : CellState). Stays c x) (sym is_anew) (anew_stays c session v (open_before (progress_of session c.state) tested.0))
 
-reopened_stays : (c e : CellState) (session : ℕ) (o : Option CellState) → closed session c ≡ o → option_and_then (opened session) o ≡ Some e → Stays c e
-reopened_stays c e session None at so = absurd (none_some e so)
-reopened_stays c e session (Some m) at so = opened_stays c m e session at so
+reopened_stays : (c e : CellState) (session : ℕ) (v : Version) (o : Option CellState) → closed session c ≡ o → option_and_then (opened session v) o ≡ Some e → Stays c e
+reopened_stays c e session v None at so = absurd (none_some e so)
+reopened_stays c e session v (Some m) at so = opened_stays c m e session v at so
 
 -- ---- all tables
 
@@ -241,18 +242,18 @@ with_rest count c first after stays has None later so = absurd (none_some after 
 with_rest count c first after stays has (Some rest) later so =
     subst (λ (l : List CellState). AreOpen count l) (same_cells (first ∷ rest) after so) (has_open_still count c first stays has, later rest refl)
 
-with_first : (count session : ℕ) (c : CellState) (cs after : List CellState) → HasOpen count c → (o : Option CellState) → ((first : CellState) → o ≡ Some first → Stays c first)
-    → ((rest : List CellState) → reopened_all session cs ≡ Some rest → AreOpen count rest)
-    → option_and_then (λ first. option_map (λ rest. first ∷ rest) (reopened_all session cs)) o ≡ Some after → AreOpen count after
-with_first count session c cs after has None stay later so = absurd (none_some after so)
-with_first count session c cs after has (Some first) stay later so = with_rest count c first after (stay first refl) has (reopened_all session cs) later so
+with_first : (count session : ℕ) (v : Version) (c : CellState) (cs after : List CellState) → HasOpen count c → (o : Option CellState) → ((first : CellState) → o ≡ Some first → Stays c first)
+    → ((rest : List CellState) → reopened_all session v cs ≡ Some rest → AreOpen count rest)
+    → option_and_then (λ first. option_map (λ rest. first ∷ rest) (reopened_all session v cs)) o ≡ Some after → AreOpen count after
+with_first count session v c cs after has None stay later so = absurd (none_some after so)
+with_first count session v c cs after has (Some first) stay later so = with_rest count c first after (stay first refl) has (reopened_all session v cs) later so
 
-reopened_all_open : (count session : ℕ) (cells after : List CellState) → reopened_all session cells ≡ Some after → AreOpen count cells → AreOpen count after
-reopened_all_open count session [] after is has = subst (λ (l : List CellState). AreOpen count l) (same_cells [] after is) tt
-reopened_all_open count session (c ∷ cs) after is (has, rest) =
-    with_first count session c cs after has (option_and_then (opened session) (closed session c))
-    (λ first made. reopened_stays c first session (closed session c) refl made)
-    (λ later made. reopened_all_open count session cs later made rest) is
+reopened_all_open : (count session : ℕ) (v : Version) (cells after : List CellState) → reopened_all session v cells ≡ Some after → AreOpen count cells → AreOpen count after
+reopened_all_open count session v [] after is has = subst (λ (l : List CellState). AreOpen count l) (same_cells [] after is) tt
+reopened_all_open count session v (c ∷ cs) after is (has, rest) =
+    with_first count session v c cs after has (option_and_then (opened session v) (closed session c))
+    (λ first made. reopened_stays c first session v (closed session c) refl made)
+    (λ later made. reopened_all_open count session v cs later made rest) is
 
 -- ---- connections
 
@@ -315,22 +316,22 @@ arrives_open session count None w e is all = stays w e all is
 arrives_open session count (Some s) w e arrives all =
     either (nat_le count (length s.to_teacher)) arrives (λ read. read_open session (s.unread ++ take count s.to_teacher) (drop count s.to_teacher) s w e read all) (λ is. stays w e all is)
 
-reopened_open : (session : ℕ) (connections : List ConnectionState) (w e : WorldState) (o : Option (List CellState)) → reopened_all session w.cells ≡ o
+reopened_open : (session : ℕ) (v : Version) (connections : List ConnectionState) (w e : WorldState) (o : Option (List CellState)) → reopened_all session v w.cells ≡ o
     → length connections ≡ length w.connections → IsReopened o (λ cells. record { cells = cells; connections = connections }) w e → IsOpenWorld w → IsOpenWorld e
-reopened_open session connections w e None at many is all = stays w e all is
-reopened_open session connections w e (Some cells) at many is all =
-    open_at (length w.connections) cells connections e (reopened_all_open (length w.connections) session w.cells cells at all) many is
+reopened_open session v connections w e None at many is all = stays w e all is
+reopened_open session v connections w e (Some cells) at many is all =
+    open_at (length w.connections) cells connections e (reopened_all_open (length w.connections) session v w.cells cells at all) many is
 
 breaks_open : (session : ℕ) (o : Option ConnectionState) (w e : WorldState) → Breaks session o w e → IsOpenWorld w → IsOpenWorld e
 breaks_open session None w e is all = stays w e all is
 breaks_open session (Some s) w e breaks all =
-    reopened_open session (with_connection session (new_connection (roster_of w.cells)) w.connections) w e (reopened_all session w.cells) refl
-    (length_with session (new_connection (roster_of w.cells)) w.connections) breaks all
+    reopened_open session s.version (with_connection session (new_connection s.version (roster_of w.cells)) w.connections) w e (reopened_all session s.version w.cells) refl
+    (length_with session (new_connection s.version (roster_of w.cells)) w.connections) breaks all
 
 reopens_open : (session : ℕ) (o : Option ConnectionState) (w e : WorldState) → Reopens session o w e → IsOpenWorld w → IsOpenWorld e
 reopens_open session None w e is all = stays w e all is
 reopens_open session (Some s) w e reopens all =
-    either (list_any (λ c. has_out (progress_of session c.state)) w.cells) reopens (λ is. stays w e all is) (λ made. reopened_open session w.connections w e (reopened_all session w.cells) refl refl made all)
+    either (list_any (λ c. has_out (progress_of session c.state)) w.cells) reopens (λ is. stays w e all is) (λ made. reopened_open session s.version w.connections w e (reopened_all session s.version w.cells) refl refl made all)
 
 learns_open : (session : ℕ) (u : Update) (now : ℕ) (o : Option ConnectionState) (w e : WorldState) → LearnsFor session u now o w e → IsOpenWorld w → IsOpenWorld e
 learns_open session u now None w e is all = stays w e all is

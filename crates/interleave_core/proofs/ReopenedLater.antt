@@ -8,6 +8,7 @@ use Rattle.std.proofs.lemmas.List.Elements.{filter-append}
 use Rattle.std.proofs.lemmas.List.Sums.{fold_push}
 use Rattle.table_types.specs.declared.copies.CopyKind.{CopyKind}
 use Rattle.table_types.specs.declared.update.Update.{Update}
+use Rattle.table_types.specs.declared.version.Version.{Version}
 use Rattle.table_cell.specs.Copying.{update_of}
 use Rattle.table_cell.specs.declared.errors.AckError.{AckError}
 use Rattle.table_cell.specs.declared.errors.AckError.TheVariants as unacknowledged
@@ -22,9 +23,9 @@ use Rattle.table_cell.specs.declared.events.CellEvent.TheVariants as events
 use Rattle.table_cell.specs.declared.events.CellReply.{CellReply}
 use Rattle.table_cell.specs.declared.events.CellReply.TheVariants as replies
 use Rattle.table_cell.specs.declared.progress.Progress.{Progress}
-use Rattle.table_cell.specs.Machine.{Leaves, Step, TableState, ack_refusal, acknowledged_by, acknowledging, bound_by, close_refusal, copy_refusal, in_reach, is_full, is_of_table, is_out, is_unacked, last_number, learn_refusal, learned, no_progress, open_refusal, progress_of, settled_by, stored, tracked, unacked, with_progress}
+use Rattle.table_cell.specs.Machine.{Step, TableState, acknowledged_by, acknowledging, bound_by, close_refusal, in_reach, is_full, is_of_table, is_out, is_unacked, last_number, learned, no_progress, open_refusal, progress_of, settled_by, stored, tracked, unacked, version_by, with_progress}
 use Rattle.table_cell.specs.Histories.{CellState, Closes, IsSoundCell, Made, Opens, batch_in, is_copy_of, is_history_full, room_of}
-use Rattle.table_cell.specs.Handing.{handed_since, is_about, resyncs_after, resyncs_since, updates_in}
+use Rattle.table_cell.specs.Handing.{is_about, resyncs_after, resyncs_since, updates_in}
 use Rattle.table_cell.specs.Soundness.{SessionsDiffer}
 use Rattle.table_cell.proofs.HandingSessions.{no_copy, other_without, own_without, resyncs_open, same_progress_of}
 use Rattle.table_cell.proofs.RowsLaws.{some_none}
@@ -168,7 +169,7 @@ copies n m limit now kind s e reply other differ (granted, answer, is) = (
 )
   where
     given : Option Progress → List Update
-    given o = take limit (map (update_of s.definition now) (filter (is_unacked kind (acknowledged_by o) now) (in_reach kind (bound_by o) s.rows)))
+    given o = take limit (map (update_of (version_by o) s.definition now) (filter (is_unacked kind (acknowledged_by o) now) (in_reach kind (bound_by o) s.rows)))
 
     refusal : Option Progress → Option CopyError
     refusal o = of_session o
@@ -209,16 +210,16 @@ acknowledges n m number s e reply other differ (granted, answer, is) = (
     unmoved : progress_of m (closed_state n s) ≡ progress_of m s
     unmoved = other_without m n s.sessions (flip m n other)
 
-opens : (n m : ℕ) (s e : TableState) (reply : CellReply) → nat_eq m n ≡ false → length (others n s.sessions) < 15 → SessionsDiffer s.sessions → Step (closed_state n s) (events.Open m) reply e → Before n s (events.Open m) reply e
-opens n m s e reply other few differ (granted, answer, is) =
+opens : (n m : ℕ) (v : Version) (s e : TableState) (reply : CellReply) → nat_eq m n ≡ false → length (others n s.sessions) < 15 → SessionsDiffer s.sessions → Step (closed_state n s) (events.Open m v) reply e → Before n s (events.Open m v) reply e
+opens n m v s e reply other few differ (granted, answer, is) =
     let unmoved : progress_of m (closed_state n s) ≡ progress_of m s = other_without m n s.sessions (flip m n other) in
     let absent : is_some (progress_of m s) ≡ false = sym (ap (λ (o : Option Progress). is_some o) unmoved) ∙ (passes (is_some (progress_of m (closed_state n s))) _ _ granted).0 in
     let lost = one_lost n s.sessions differ in
     let room : length s.sessions < 16 = omega (arith, lost, few) in (
-      record s { sessions = s.sessions ++ (m, no_progress s.next) ∷ [] },
+      record s { sessions = s.sessions ++ (m, no_progress v s.next) ∷ [] },
       (three_pass (is_some (progress_of m s)) (nat_le 16 (length s.sessions)) false unopened.AlreadyOpen unopened.TooMany unopened.HistoryFull absent (lt-leb 16 (length s.sessions) room) refl, answer, refl),
-      is ∙ ap (λ (l : List (ℕ × Progress)). record s { sessions = l }) (sym (others_end n m (no_progress s.next) s.sessions other)),
-      sessions_differ_end m (no_progress s.next) s.sessions differ (absent_some (progress_of m s) absent),
+      is ∙ ap (λ (l : List (ℕ × Progress)). record s { sessions = l }) (sym (others_end n m (no_progress v s.next) s.sessions other)),
+      sessions_differ_end m (no_progress v s.next) s.sessions differ (absent_some (progress_of m s) absent),
     )
 
 two_pass : {E : Type 0} (a b : Bool) (x y : E) → a ≡ false → b ≡ false → ◌≡◌ {A = Option E} (cond a (Some x) (cond b (Some y) None)) None
@@ -241,10 +242,14 @@ before n s e (events.Track seat key change now) reply other room differ (granted
 before n s e (events.Learn m u now) reply other room differ step = learns n m now u s e reply differ step
 before n s e (events.Copy m kind limit now) reply other room differ step = copies n m limit now kind s e reply other differ step
 before n s e (events.Ack m number) reply other room differ step = acknowledges n m number s e reply other differ step
-before n s e (events.Open m) reply other room differ step = opens n m s e reply other room differ step
+before n s e (events.Open m v) reply other room differ step = opens n m v s e reply other room differ step
 before n s e (events.Close m) reply other room differ step = closes n m s e reply other differ step
-before n s e (events.Purge now) reply other room differ (granted, answer, is) =
-    (record s { rows = filter (λ row. Rattle.table_rows.specs.Rows.is_live now row.1) s.rows; latest = now }, (granted, answer, refl), is, differ)
+before n s e (events.Purge now) reply other room differ (granted, answer, is) = (
+  record s { rows = e.rows; latest = now },
+  (granted, answer, ap (λ (x : TableState). record s { rows = x.rows; latest = now }) is),
+  is ∙ sym (ap (λ (x : TableState). record (closed_state n s) { rows = x.rows; latest = now }) is),
+  differ,
+)
 
 -- ---- the table
 
@@ -388,8 +393,8 @@ absent_none None some = absurd (true≢false (sym some))
 absent_none (Some p) some = refl
 
 -- the session can be closed and opened at once in the table in which it is still open
-both_now : (n : ℕ) (far d : CellState) → IsClosedOf n far d → room_of far ≢ 0 → open_refusal false far.state n ≡ None → option_and_then (opened n) (closed n d) ≡ Some (with_session n (without_session n d))
-both_now n far d is room granted =
+both_now : (n : ℕ) (v : Version) (far d : CellState) → IsClosedOf n far d → room_of far ≢ 0 → open_refusal false far.state n ≡ None → option_and_then (opened n v) (closed n d) ≡ Some (with_session n v (without_session n d))
+both_now n v far d is room granted =
     let rooms = more_room n far d is room in
     let free = is_free d rooms in
     let closing : closed n d ≡ Some (without_session n d) =
@@ -399,11 +404,11 @@ both_now n far d is room granted =
     let few : nat_le 16 (length (others n d.state.sessions)) ≡ false =
     subst (λ (s : TableState). nat_le 16 (length s.sessions) ≡ false) is.state (passes (nat_le 16 (length far.state.sessions)) _ _ (passes (is_some (progress_of n far.state)) _ _ granted).1).0 in
     let left : is_history_full (without_session n d) ≡ false = still_free d (events.Close n, replies.Close) rooms in
-    let opening : opened n (without_session n d) ≡ Some (with_session n (without_session n d)) =
-    cond-true (is_none (open_refusal (is_history_full (without_session n d)) (without_session n d).state n)) (Some (with_session n (without_session n d))) None
+    let opening : opened n v (without_session n d) ≡ Some (with_session n v (without_session n d)) =
+    cond-true (is_none (open_refusal (is_history_full (without_session n d)) (without_session n d).state n)) (Some (with_session n v (without_session n d))) None
     (ap (λ (o : Option _). is_none o)
     (three_pass (is_some (progress_of n (without_session n d).state)) (nat_le 16 (length (others n d.state.sessions))) (is_history_full (without_session n d)) unopened.AlreadyOpen unopened.TooMany unopened.HistoryFull gone few left)) in
-    ap (λ (o : Option CellState). option_and_then (opened n) o) closing ∙ opening
+    ap (λ (o : Option CellState). option_and_then (opened n v) o) closing ∙ opening
   where
     still_free : (c : CellState) (h : CellEvent × CellReply) → 2 ≤ room_of c → Rattle.std.specs.Prelude.min (1000000 + c.slid - length (c.history ++ h ∷ [])) (2 ^ 63 - (c.dropped + length (c.history ++ h ∷ []))) == 0 ≡ false
     still_free c h rooms = ne_eqb _ 0 (by (length (c.history ++ h ∷ [])) (length c.history) c.dropped c.slid (one_longer c.history h) rooms)
@@ -411,13 +416,13 @@ both_now n far d is room granted =
         by : (a b d s : ℕ) → a ≡ b + 1 → 2 ≤ Rattle.std.specs.Prelude.min (1000000 + s - b) (2 ^ 63 - (d + b)) → Rattle.std.specs.Prelude.min (1000000 + s - a) (2 ^ 63 - (d + a)) ≢ 0
         by a b d s longer rooms = λ none. omega (arith, longer, rooms, none)
 
-pub reopened_later : (c mid far e : CellState) (n : ℕ) (hs : List (CellEvent × CellReply)) → IsSoundCell c → Closes c n (Ok tt) mid → AreOthers n mid hs far → Opens far n (Ok tt) e
-    → (d : CellState) × (f : CellState) × AreMade c hs d × (option_and_then (opened n) (closed n d) ≡ Some f) × AreAlike n f e
-reopened_later c mid far e n hs sound closing between (free, ((granted, answer, state), is)) =
+pub reopened_later : (c mid far e : CellState) (n : ℕ) (v : Version) (hs : List (CellEvent × CellReply)) → IsSoundCell c → Closes c n (Ok tt) mid → AreOthers n mid hs far → Opens far n v (Ok tt) e
+    → (d : CellState) × (f : CellState) × AreMade c hs d × (option_and_then (opened n v) (closed n d) ≡ Some f) × AreAlike n f e
+reopened_later c mid far e n v hs sound closing between (free, ((granted, answer, state), is)) =
     let (d, all) = all_before n mid c far hs (just_closed n c mid sound closing) between in
-    let f : CellState = with_session n (without_session n d) in
-    let opening : Made far (events.Open n) replies.Open e = ((granted, answer, state), is) in
-    let opens_again : Made (without_session n d) (events.Open n) replies.Open f = (
+    let f : CellState = with_session n v (without_session n d) in
+    let opening : Made far (events.Open n v) replies.Open e = ((granted, answer, state), is) in
+    let opens_again : Made (without_session n d) (events.Open n v) replies.Open f = (
       (
         three_pass (is_some (progress_of n (without_session n d).state)) (nat_le 16 (length (others n d.state.sessions))) false unopened.AlreadyOpen unopened.TooMany unopened.HistoryFull
             (ap (λ (o : Option Progress). is_some o) (own_without n d.state.sessions))
@@ -428,7 +433,7 @@ reopened_later c mid far e n hs sound closing between (free, ((granted, answer, 
       refl,
     ) in
     let last_history : e.history ≡ ((c.history ++ close_entry ∷ []) ++ hs) ++ open_entry ∷ [] =
-    made_history far e (events.Open n) replies.Open opening ∙ ap (λ (l : List (CellEvent × CellReply)). l ++ open_entry ∷ []) (all.far_history
+    made_history far e (events.Open n v) replies.Open opening ∙ ap (λ (l : List (CellEvent × CellReply)). l ++ open_entry ∷ []) (all.far_history
     ∙ ap (λ (l : List (CellEvent × CellReply)). l ++ hs) (ap (λ (z : CellState). z.history) closing.1.1)) in
     let first_history : f.history ≡ ((c.history ++ hs) ++ close_entry ∷ []) ++ open_entry ∷ [] = ap (λ (l : List (CellEvent × CellReply)). (l ++ close_entry ∷ []) ++ open_entry ∷ []) all.near_history in
     let own : own_events n f.history ≡ own_events n e.history =
@@ -441,13 +446,13 @@ reopened_later c mid far e n hs sound closing between (free, ((granted, answer, 
       d,
       f,
       all.made,
-      both_now n far d all.still (has_room far free) granted,
+      both_now n v far d all.still (has_room far free) granted,
       record {
-        state = sym (state ∙ ap (λ (s : TableState). record s { sessions = s.sessions ++ (n, no_progress s.next) ∷ [] }) all.still.state);
+        state = sym (state ∙ ap (λ (s : TableState). record s { sessions = s.sessions ++ (n, no_progress v s.next) ∷ [] }) all.still.state);
         own = own;
         others = others_same;
-        handed = sym (open_tied n [] (without_session n d) f replies.Open opens_again tt).same ∙ (open_tied n [] far e replies.Open opening tt).same;
-        resyncs = resyncs_new (without_session n d).history ∙ sym (ap (resyncs_since n) (made_history far e (events.Open n) replies.Open opening) ∙ resyncs_new far.history);
+        handed = sym (open_tied n v [] (without_session n d) f replies.Open opens_again tt).same ∙ (open_tied n v [] far e replies.Open opening tt).same;
+        resyncs = resyncs_new (without_session n d).history ∙ sym (ap (resyncs_since n) (made_history far e (events.Open n v) replies.Open opening) ∙ resyncs_new far.history);
         copied = λ u. (same_copied n u f.history e.history own, same_copied n u e.history f.history (sym own));
       },
     )
@@ -456,7 +461,7 @@ reopened_later c mid far e n hs sound closing between (free, ((granted, answer, 
     close_entry = (events.Close n, replies.Close)
 
     open_entry : CellEvent × CellReply
-    open_entry = (events.Open n, replies.Open)
+    open_entry = (events.Open n v, replies.Open)
 
     resyncs_new : (hs : List (CellEvent × CellReply)) → resyncs_since n (hs ++ open_entry ∷ []) ≡ true
-    resyncs_new hs = fold_push (resyncs_after n) true hs open_entry ∙ resyncs_open n (resyncs_since n hs) replies.Open
+    resyncs_new hs = fold_push (resyncs_after n) true hs open_entry ∙ resyncs_open n v (resyncs_since n hs) replies.Open

@@ -5,6 +5,7 @@ use Rattle.std.specs.Map.{lookup}
 use Rattle.std.specs.Vec.{with_items}
 use Rattle.std.proofs.lemmas.Bool.{cases_Bool, and_cases, and_parts, eq-eqb, eqb-false, ne_eqb, leb-true, leb-false, lt-leb, cond-true, cond-false, cond_both}
 use Rattle.std.proofs.lemmas.List.{length_push, length-map, get_or_default, with_items_is}
+use Rattle.table_types.specs.declared.version.Version.{Version}
 use Rattle.table_cell.specs.declared.errors.CloseError.{CloseError}
 use Rattle.table_cell.specs.declared.errors.CloseError.TheVariants as unclosed
 use Rattle.table_cell.specs.declared.errors.OpenError.{OpenError}
@@ -98,21 +99,21 @@ can_reopen session count c has least most room =
       three_pass (is_some (progress_of session (without_session session c).state)) (nat_le 16 (length (others session c.state.sessions))) (is_history_full (without_session session c)) unopened.AlreadyOpen unopened.TooMany unopened.HistoryFull gone (lt-leb 16 (length (others session c.state.sessions)) few) full_then,
     )
 
-opens : (session : ℕ) (c : CellState) → CanOpen session c → opened session c ≡ Some (with_session session c)
-opens session c can =
-    cond-true (is_none (open_refusal (is_history_full c) c.state session)) (Some (with_session session c)) None (ap (λ (o : Option OpenError). is_none o) can)
+opens : (session : ℕ) (v : Version) (c : CellState) → CanOpen session c → opened session v c ≡ Some (with_session session v c)
+opens session v c can =
+    cond-true (is_none (open_refusal (is_history_full c) c.state session)) (Some (with_session session v c)) None (ap (λ (o : Option OpenError). is_none o) can)
 
 closes : (session : ℕ) (c : CellState) → close_refusal (is_history_full c) c.state session ≡ None → closed session c ≡ Some (without_session session c)
 closes session c can =
     cond-true (is_none (close_refusal (is_history_full c) c.state session)) (Some (without_session session c)) None (ap (λ (o : Option CloseError). is_none o) can)
 
-reopened_one : (session : ℕ) (c : CellState) → CanReopen session c → option_and_then (opened session) (closed session c) ≡ Some (with_session_anew session c)
-reopened_one session c (closing, opening) =
-    ap (λ (o : Option CellState). option_and_then (opened session) o) (closes session c closing) ∙ opens session (without_session session c) opening
+reopened_one : (session : ℕ) (v : Version) (c : CellState) → CanReopen session c → option_and_then (opened session v) (closed session c) ≡ Some (with_session_anew session v c)
+reopened_one session v c (closing, opening) =
+    ap (λ (o : Option CellState). option_and_then (opened session v) o) (closes session c closing) ∙ opens session v (without_session session c) opening
 
 -- a table that lacks the room refuses one of the two
-not_reopened : (session : ℕ) (c : CellState) → nat_le 2 (room_of c) ≡ false → option_and_then (opened session) (closed session c) ≡ None
-not_reopened session c lacks = elim (cases_Bool (is_none (close_refusal (is_history_full c) c.state session))) [
+not_reopened : (session : ℕ) (v : Version) (c : CellState) → nat_le 2 (room_of c) ≡ false → option_and_then (opened session v) (closed session c) ≡ None
+not_reopened session v c lacks = elim (cases_Bool (is_none (close_refusal (is_history_full c) c.state session))) [
   | inl granted ↦
       let full = two_passed (is_none (progress_of session c.state)) (is_history_full c) unclosed.NoSession unclosed.HistoryFull granted in
       let few : room_of c < 2 = leb-false 2 (room_of c) lacks in
@@ -121,29 +122,29 @@ not_reopened session c lacks = elim (cases_Bool (is_none (close_refusal (is_hist
       let full_then : is_history_full (without_session session c) ≡ true = eq-eqb (room_of (without_session session c)) 0 (omega arith) in
       let refused : is_none (open_refusal (is_history_full (without_session session c)) (without_session session c).state session) ≡ false =
       third_fails (is_some (progress_of session (without_session session c).state)) (nat_le 16 (length (others session c.state.sessions))) (is_history_full (without_session session c)) unopened.AlreadyOpen unopened.TooMany unopened.HistoryFull full_then in
-      ap (λ (o : Option CellState). option_and_then (opened session) o) (cond-true (is_none (close_refusal (is_history_full c) c.state session)) (Some (without_session session c)) None granted)
-      ∙ cond-false (is_none (open_refusal (is_history_full (without_session session c)) (without_session session c).state session)) (Some (with_session session (without_session session c))) None refused
+      ap (λ (o : Option CellState). option_and_then (opened session v) o) (cond-true (is_none (close_refusal (is_history_full c) c.state session)) (Some (without_session session c)) None granted)
+      ∙ cond-false (is_none (open_refusal (is_history_full (without_session session c)) (without_session session c).state session)) (Some (with_session session v (without_session session c))) None refused
   | inr refused ↦
-      ap (λ (o : Option CellState). option_and_then (opened session) o) (cond-false (is_none (close_refusal (is_history_full c) c.state session)) (Some (without_session session c)) None refused)
+      ap (λ (o : Option CellState). option_and_then (opened session v) o) (cond-false (is_none (close_refusal (is_history_full c) c.state session)) (Some (without_session session c)) None refused)
 ]
 
 -- ---- all tables
 
-each_reopened : (session : ℕ) (cells : List CellState) → AllByRecursion (CanReopen session) cells → reopened_all session cells ≡ Some (map (with_session_anew session) cells)
-each_reopened session [] can = refl
-each_reopened session (c ∷ cs) (can, rest) =
-    ap (λ (o : Option CellState). option_and_then (λ first. option_map (λ rest. first ∷ rest) (reopened_all session cs)) o) (reopened_one session c can)
-    ∙ ap (λ (o : Option (List CellState)). option_map (λ rest. with_session_anew session c ∷ rest) o) (each_reopened session cs rest)
+each_reopened : (session : ℕ) (v : Version) (cells : List CellState) → AllByRecursion (CanReopen session) cells → reopened_all session v cells ≡ Some (map (with_session_anew session v) cells)
+each_reopened session v [] can = refl
+each_reopened session v (c ∷ cs) (can, rest) =
+    ap (λ (o : Option CellState). option_and_then (λ first. option_map (λ rest. first ∷ rest) (reopened_all session v cs)) o) (reopened_one session v c can)
+    ∙ ap (λ (o : Option (List CellState)). option_map (λ rest. with_session_anew session v c ∷ rest) o) (each_reopened session v cs rest)
 
 no_rest : (o : Option CellState) (r : Option (List CellState)) → r ≡ None → option_and_then (λ first. option_map (λ rest. first ∷ rest) r) o ≡ None
 no_rest None r none = refl
 no_rest (Some c) r none = ap (λ (q : Option (List CellState)). option_map (λ rest. c ∷ rest) q) none
 
-none_reopened : (session : ℕ) (cells : List CellState) → list_all (λ c. nat_le 2 (room_of c)) cells ≡ false → reopened_all session cells ≡ None
-none_reopened session [] lacks = absurd (true≢false lacks)
-none_reopened session (c ∷ cs) lacks = elim (and_cases (nat_le 2 (room_of c)) (list_all (λ c. nat_le 2 (room_of c)) cs) lacks) [
-  | inl here ↦ ap (λ (o : Option CellState). option_and_then (λ first. option_map (λ rest. first ∷ rest) (reopened_all session cs)) o) (not_reopened session c here)
-  | inr later ↦ no_rest (option_and_then (opened session) (closed session c)) (reopened_all session cs) (none_reopened session cs later)
+none_reopened : (session : ℕ) (v : Version) (cells : List CellState) → list_all (λ c. nat_le 2 (room_of c)) cells ≡ false → reopened_all session v cells ≡ None
+none_reopened session v [] lacks = absurd (true≢false lacks)
+none_reopened session v (c ∷ cs) lacks = elim (and_cases (nat_le 2 (room_of c)) (list_all (λ c. nat_le 2 (room_of c)) cs) lacks) [
+  | inl here ↦ ap (λ (o : Option CellState). option_and_then (λ first. option_map (λ rest. first ∷ rest) (reopened_all session v cs)) o) (not_reopened session v c here)
+  | inr later ↦ no_rest (option_and_then (opened session v) (closed session c)) (reopened_all session v cs) (none_reopened session v cs later)
 ]
 
 each_can : (session count : ℕ) (cells : List CellState) → AllByRecursion (HasOpen count) cells → list_all (λ c. nat_le 2 (room_of c)) cells ≡ true → 1 ≤ session → session ≤ count
@@ -175,19 +176,21 @@ found : (session : ℕ) (cs : List Connection) (place : ℕ) (new : Connection) 
 found session cs place new here =
     connection_found session cs place (get_or cs place new) here (get_or_default cs place new (get_or cs place new) here.below)
 
-pub breaks_off : (session : ℕ) (cells : List CellState) (cs : List Connection) (place : ℕ) (new : Connection)
-    → IsConnectionAt session cs place → AllByRecursion (CanReopen session) cells → connection_of new ≡ new_connection (roster_of cells)
-    → Breaks session (connection_at session (connections_of cs)) (record { cells = cells; connections = connections_of cs }) (record { cells = map (with_session_anew session) cells; connections = connections_of (set cs place new) })
-breaks_off session cells cs place new here can is =
-    let changed : connections_of (set cs place new) ≡ with_connection session (new_connection (roster_of cells)) (connections_of cs) =
+pub breaks_off : (session : ℕ) (v : Version) (cells : List CellState) (cs : List Connection) (place : ℕ) (new : Connection)
+    → IsConnectionAt session cs place → AllByRecursion (CanReopen session) cells → connection_of new ≡ new_connection v (roster_of cells) → (connection_of (get_or cs place new)).version ≡ v
+    → Breaks session (connection_at session (connections_of cs)) (record { cells = cells; connections = connections_of cs }) (record { cells = map (with_session_anew session v) cells; connections = connections_of (set cs place new) })
+breaks_off session v cells cs place new here can is same =
+    let changed : connections_of (set cs place new) ≡ with_connection session (new_connection v (roster_of cells)) (connections_of cs) =
     connection_changed session cs place new here ∙ ap (λ (s : ConnectionState). with_connection session s (connections_of cs)) is in
     let begun : List CellState → WorldState = λ after.
-    record { cells = after; connections = with_connection session (new_connection (roster_of cells)) (connections_of cs) } in
-    let ends : WorldState = record { cells = map (with_session_anew session) cells; connections = connections_of (set cs place new) } in
-    let so : ends ≡ begun (map (with_session_anew session) cells) =
-    ap (λ (connections : List ConnectionState). record { cells = map (with_session_anew session) cells; connections = connections }) changed in
+    record { cells = after; connections = with_connection session (new_connection v (roster_of cells)) (connections_of cs) } in
+    let ends : WorldState = record { cells = map (with_session_anew session v) cells; connections = connections_of (set cs place new) } in
+    let so : ends ≡ begun (map (with_session_anew session v) cells) =
+    ap (λ (connections : List ConnectionState). record { cells = map (with_session_anew session v) cells; connections = connections }) changed in
     subst (λ (o : Option ConnectionState). Breaks session o (record { cells = cells; connections = connections_of cs }) ends) (sym (found session cs place new here))
-    (subst (λ (o : Option (List CellState)). IsReopened o begun (record { cells = cells; connections = connections_of cs }) ends) (sym (each_reopened session cells can)) so)
+    (subst
+    (λ (x : Version). IsReopened (reopened_all session x cells) (λ after. record { cells = after; connections = with_connection session (new_connection x (roster_of cells)) (connections_of cs) }) (record { cells = cells; connections = connections_of cs }) ends) (sym same)
+    (subst (λ (o : Option (List CellState)). IsReopened o begun (record { cells = cells; connections = connections_of cs }) ends) (sym (each_reopened session v cells can)) so))
 
 -- a Break or a Reopen for which a table lacks the room changes nothing
 pub breaks_nothing : (session : ℕ) (w : WorldState) → list_all (λ c. nat_le 2 (room_of c)) w.cells ≡ false → Breaks session (connection_at session w.connections) w w
@@ -196,27 +199,27 @@ breaks_nothing session w lacks = by_connection (connection_at session w.connecti
     by_connection : (o : Option ConnectionState) → Breaks session o w w
     by_connection None = refl
     by_connection (Some s) =
-        subst (λ (o : Option (List CellState)). IsReopened o (λ cells. record { cells = cells; connections = with_connection session (new_connection (roster_of w.cells)) w.connections }) w w)
-        (sym (none_reopened session w.cells lacks)) refl
+        subst (λ (o : Option (List CellState)). IsReopened o (λ cells. record { cells = cells; connections = with_connection session (new_connection s.version (roster_of w.cells)) w.connections }) w w)
+        (sym (none_reopened session s.version w.cells lacks)) refl
 
 reopens_with : (session : ℕ) (w e : WorldState) (any : Bool) → list_any (λ c. has_out (progress_of session c.state)) w.cells ≡ any → (o : Option ConnectionState)
     → (any ≡ true → e ≡ w)
-    → (any ≡ false → IsReopened (reopened_all session w.cells) (λ cells. record w { cells = cells }) w e)
+    → (any ≡ false → (s : ConnectionState) → o ≡ Some s → IsReopened (reopened_all session s.version w.cells) (λ cells. record w { cells = cells }) w e)
     → (o ≡ None → e ≡ w)
     → Reopens session o w e
 reopens_with session w e any is None out none gone = gone refl
 reopens_with session w e true is (Some s) out none gone = rw is (out refl)
-reopens_with session w e false is (Some s) out none gone = rw is (none refl)
+reopens_with session w e false is (Some s) out none gone = rw is (none refl s refl)
 
 pub reopens_nothing_out : (session : ℕ) (w : WorldState) → list_any (λ c. has_out (progress_of session c.state)) w.cells ≡ true → Reopens session (connection_at session w.connections) w w
 reopens_nothing_out session w out =
-    reopens_with session w w true out (connection_at session w.connections) (λ _. refl) (λ other. absurd (true≢false other)) (λ _. refl)
+    reopens_with session w w true out (connection_at session w.connections) (λ _. refl) (λ other s at. absurd (true≢false other)) (λ _. refl)
 
 pub reopens_nothing : (session : ℕ) (w : WorldState) → list_any (λ c. has_out (progress_of session c.state)) w.cells ≡ false → list_all (λ c. nat_le 2 (room_of c)) w.cells ≡ false
     → Reopens session (connection_at session w.connections) w w
 reopens_nothing session w out lacks =
     reopens_with session w w false out (connection_at session w.connections) (λ _. refl)
-    (λ _. subst (λ (o : Option (List CellState)). IsReopened o (λ cells. record w { cells = cells }) w w) (sym (none_reopened session w.cells lacks)) refl) (λ _. refl)
+    (λ _ s at. subst (λ (o : Option (List CellState)). IsReopened o (λ cells. record w { cells = cells }) w w) (sym (none_reopened session s.version w.cells lacks)) refl) (λ _. refl)
 
 is_there : {A : Type 0} (xs : List A) (i : ℕ) → i < length xs → slice_get xs i ≡ None → ⊥
 is_there [] i below none = absurd (omega arith)
@@ -229,12 +232,18 @@ connected session cs place here none =
     ap (λ (n : ℕ). connection_at n (connections_of cs)) (here.number ∙ plus_one place) in
     is_there (connections_of cs) place (omega (arith, here.below, length-map cs connection_of)) (sym at ∙ none)
 
-pub reopens : (session : ℕ) (cells : List CellState) (cs : List Connection) (place : ℕ) → IsConnectionAt session cs place
+same_found : (a b : ConnectionState) → ◌≡◌ {A = Option ConnectionState} (Some a) (Some b) → a ≡ b
+same_found a b is = cc
+
+pub reopens : (session : ℕ) (v : Version) (cells : List CellState) (cs : List Connection) (place : ℕ) (now : Connection) → IsConnectionAt session cs place → (connection_of (get_or cs place now)).version ≡ v
     → list_any (λ c. has_out (progress_of session c.state)) cells ≡ false → AllByRecursion (CanReopen session) cells
-    → Reopens session (connection_at session (connections_of cs)) (record { cells = cells; connections = connections_of cs }) (record { cells = map (with_session_anew session) cells; connections = connections_of cs })
-reopens session cells cs place here out can =
+    → Reopens session (connection_at session (connections_of cs)) (record { cells = cells; connections = connections_of cs }) (record { cells = map (with_session_anew session v) cells; connections = connections_of cs })
+reopens session v cells cs place now here same out can =
     let w : WorldState = record { cells = cells; connections = connections_of cs } in
-    let e : WorldState = record { cells = map (with_session_anew session) cells; connections = connections_of cs } in
+    let e : WorldState = record { cells = map (with_session_anew session v) cells; connections = connections_of cs } in
     reopens_with session w e false out (connection_at session (connections_of cs)) (λ other. absurd (true≢false (sym other)))
-    (λ _. subst (λ (o : Option (List CellState)). IsReopened o (λ cells. record w { cells = cells }) w e) (sym (each_reopened session cells can)) refl)
+    (λ _ s at.
+    let is : s.version ≡ v = ap (λ (x : ConnectionState). x.version) (same_found s (connection_of (get_or cs place now)) (sym at ∙ found session cs place now here)) ∙ same in
+    subst (λ (x : Version). IsReopened (reopened_all session x cells) (λ cells. record w { cells = cells }) w e) (sym is)
+    (subst (λ (o : Option (List CellState)). IsReopened o (λ cells. record w { cells = cells }) w e) (sym (each_reopened session v cells can)) refl))
     (λ none. absurd (connected session cs place here none))

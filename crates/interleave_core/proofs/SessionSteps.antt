@@ -7,6 +7,7 @@ use Rattle.table_types.specs.declared.copies.CopyKind.{CopyKind}
 use Rattle.table_types.specs.declared.copies.CopyKind.TheVariants as kinds
 use Rattle.table_types.specs.declared.copies.Settled.{Settled}
 use Rattle.table_types.specs.declared.update.Update.{Update}
+use Rattle.table_types.specs.declared.version.Version.{Version}
 use Rattle.known_state.specs.Known.{KnownState}
 use Rattle.teach_writer.specs.Lessons.{IsShortestLesson}
 use Rattle.table_cell.specs.declared.errors.CloseError.{CloseError}
@@ -40,7 +41,7 @@ learned_as w c e s session now u answer at connected some call =
     rw connected (with_cell u.table e w.cells, rw at (e, (answer, some, call), refl), refl)
 
 pub copied_as : (w : WorldState) (c e : CellState) (s : ConnectionState) (session table limit now : ℕ) (kind : CopyKind) (answer : Result (List Update) CopyError)
-    → cell_at table w.cells ≡ Some c → connection_at session w.connections ≡ Some s → kind ≢ kinds.Standing → 1 ≤ limit → limit ≤ 512
+    → cell_at table w.cells ≡ Some c → connection_at session w.connections ≡ Some s → kind ≢ kinds.Standing → 1 ≤ limit → limit ≤ 4096
     → answer ≢ Err uncopied.Memory → Copies c session kind limit now answer e
     → Moves w (steps.Copy session table kind limit now)
     (record { cells = with_cell table e w.cells; connections = with_connection session (record s { copied = with_batch s.copied answer }) w.connections })
@@ -75,14 +76,14 @@ closed_as c e session (free, ((granted, reply, state), is)) =
     ∙ ap (λ (x : CellState). Some x)
     (sym (is ∙ ap (λ (s : TableState). record c { history = c.history ++ (events.Close session, replies.Close) ∷ []; state = s }) state))
 
-pub opened_as : (c e : CellState) (session : ℕ) → Opens c session (Ok tt) e → opened session c ≡ Some e
-opened_as c e session (free, ((granted, reply, state), is)) =
-    cond-true (is_none (open_refusal (is_history_full c) c.state session)) (Some (with_session session c)) None
+pub opened_as : (c e : CellState) (session : ℕ) (version : Version) → Opens c session version (Ok tt) e → opened session version c ≡ Some e
+opened_as c e session version (free, ((granted, reply, state), is)) =
+    cond-true (is_none (open_refusal (is_history_full c) c.state session)) (Some (with_session session version c)) None
     (rw free (ap (λ (o : Option OpenError). is_none o) granted))
     ∙ ap (λ (x : CellState). Some x)
-    (sym (is ∙ ap (λ (s : TableState). record c { history = c.history ++ (events.Open session, replies.Open) ∷ []; state = s }) state))
+    (sym (is ∙ ap (λ (s : TableState). record c { history = c.history ++ (events.Open session version, replies.Open) ∷ []; state = s }) state))
 
-pub reopened_as : (c mid e : CellState) (session : ℕ) → Closes c session (Ok tt) mid → Opens mid session (Ok tt) e
-    → option_and_then (opened session) (closed session c) ≡ Some e
-reopened_as c mid e session closes opens =
-    ap (λ (o : Option CellState). option_and_then (opened session) o) (closed_as c mid session closes) ∙ opened_as mid e session opens
+pub reopened_as : (c mid e : CellState) (session : ℕ) (version : Version) → Closes c session (Ok tt) mid → Opens mid session version (Ok tt) e
+    → option_and_then (opened session version) (closed session c) ≡ Some e
+reopened_as c mid e session version closes opens =
+    ap (λ (o : Option CellState). option_and_then (opened session version) o) (closed_as c mid session closes) ∙ opened_as mid e session version opens

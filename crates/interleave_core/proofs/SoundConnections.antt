@@ -20,6 +20,7 @@ use Rattle.table_types.specs.declared.update.Update.{Update}
 use Rattle.table_types.specs.Batches.{IsBatchFor, IsUpdateFor}
 use Rattle.table_types.specs.Rosters.{repeats_name, roster_fault}
 use Rattle.table_types.specs.Tables.{Definition}
+use Rattle.table_types.specs.declared.version.Version.{Version}
 use Rattle.known_state.specs.Known.{AreOwn, KnownState, is_in, known_of}
 use Rattle.known_state.specs.LastNumbers.{AreRising}
 use Rattle.known_state.specs.Lessons.{IsLessonFor}
@@ -320,10 +321,10 @@ no_last table number e = cc
 false_true : false ≡ true → ⊥
 false_true e = cc
 
-pub begun : (roster : List Definition) → roster_fault roster ≡ None → IsSoundConnection roster (new_connection roster) []
-begun roster sound =
+pub begun : (v : Version) (roster : List Definition) → roster_fault roster ≡ None → IsSoundConnection roster (new_connection v roster) []
+begun v roster sound =
     record {
-      track = track.begun roster sound;
+      track = track.begun v roster sound;
       to_teacher = (refl, no_bytes, tt);
       state = record {
         distinct = tt;

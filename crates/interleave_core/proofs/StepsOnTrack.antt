@@ -1,5 +1,5 @@
 -- A world on track stays so at each step that isn't a copy.
-use Rattle.std.proofs.Common.{◌≡◌, ℕ, zero, suc, ◌++◌, false, List, [], ◌∷◌, drop, length, nat_le, drop_at, option_map, option_and_then, replicate, set, slice_get, take, Option, Some, None, Result, Ok, Err, refl, sym, ap, subst, ◌∙◌, arith, inl, inr, append_assoc, take-append-drop, true≢false}
+use Rattle.std.proofs.Common.{◌≡◌, ℕ, zero, suc, ◌++◌, false, List, [], ◌∷◌, drop, length, map, nat_le, drop_at, option_map, option_and_then, set, slice_get, take, Option, Some, None, Result, Ok, Err, refl, sym, ap, subst, ◌∙◌, arith, inl, inr, append_assoc, take-append-drop, true≢false}
 use Rattle.std.specs.List.{AllByRecursion, list_any}
 use Rattle.std.proofs.lemmas.Bool.{MatchBool-at_false, MatchBool-at_true, cases_Bool}
 use Rattle.std.proofs.lemmas.Option.{cond_some, none-some, option_and_then_some, same_Some}
@@ -11,6 +11,7 @@ use Rattle.table_types.specs.declared.key.Key.{Key}
 use Rattle.table_types.specs.declared.update.Update.{Update}
 use Rattle.table_types.specs.Rosters.{repeats_name, roster_fault}
 use Rattle.table_types.specs.Tables.{Definition}
+use Rattle.table_types.specs.declared.version.Version.{Version}
 use Rattle.learner.specs.Learning.{with_piece}
 use Rattle.learner.specs.OnItsWay.{IsOnItsWay}
 use Rattle.learner.proofs.EachPieceGivesItsOwn.{fed_on_way, on_way}
@@ -205,55 +206,55 @@ arrives_at_teacher session count w e track arrives = of_one (connection_at sessi
 closed_stays : (session : ℕ) (c new : CellState) → closed session c ≡ Some new → new.state.definition ≡ c.state.definition
 closed_stays session c new is = ap (λ (x : CellState). x.state.definition) (sym (cond_some _ _ new is).1)
 
-opened_stays : (session : ℕ) (c new : CellState) → opened session c ≡ Some new → new.state.definition ≡ c.state.definition
-opened_stays session c new is = ap (λ (x : CellState). x.state.definition) (sym (cond_some _ _ new is).1)
+opened_stays : (session : ℕ) (v : Version) (c new : CellState) → opened session v c ≡ Some new → new.state.definition ≡ c.state.definition
+opened_stays session v c new is = ap (λ (x : CellState). x.state.definition) (sym (cond_some _ _ new is).1)
 
 option_map_some : {A B : Type 0} (f : A → B) (o : Option A) (y : B) → option_map f o ≡ Some y → (x : A) × (o ≡ Some x) × (f x ≡ y)
 option_map_some f None y is = absurd (none-some y is)
 option_map_some f (Some x) y is = (x, refl, same_Some (f x) y is)
 
-reopened_all_stays : (session : ℕ) (cells after : List CellState) → reopened_all session cells ≡ Some after → roster_of after ≡ roster_of cells
-reopened_all_stays session [] after is = ap (λ (cs : List CellState). roster_of cs) (sym (same_Some [] after is))
-reopened_all_stays session (c ∷ cs) after is =
-    option_and_then_some (λ (first : CellState). option_map (λ (rest : List CellState). first ∷ rest) (reopened_all session cs))
-    (option_and_then (opened session) (closed session c)) after is
+reopened_all_stays : (session : ℕ) (v : Version) (cells after : List CellState) → reopened_all session v cells ≡ Some after → roster_of after ≡ roster_of cells
+reopened_all_stays session v [] after is = ap (λ (cs : List CellState). roster_of cs) (sym (same_Some [] after is))
+reopened_all_stays session v (c ∷ cs) after is =
+    option_and_then_some (λ (first : CellState). option_map (λ (rest : List CellState). first ∷ rest) (reopened_all session v cs))
+    (option_and_then (opened session v) (closed session c)) after is
     (λ first made more.
-    option_and_then_some (opened session) (closed session c) first made
+    option_and_then_some (opened session v) (closed session c) first made
     (λ mid shut again.
-    let others = option_map_some (λ (rest : List CellState). first ∷ rest) (reopened_all session cs) after more in
-    let same : first.state.definition ≡ c.state.definition = opened_stays session mid first again ∙ closed_stays session c mid shut in
+    let others = option_map_some (λ (rest : List CellState). first ∷ rest) (reopened_all session v cs) after more in
+    let same : first.state.definition ≡ c.state.definition = opened_stays session v mid first again ∙ closed_stays session c mid shut in
     ap (λ (xs : List CellState). roster_of xs) (sym others.2)
     ∙ ap (λ (d : Definition). d ∷ roster_of others.0) same
-    ∙ ap (λ (ds : List Definition). c.state.definition ∷ ds) (reopened_all_stays session cs others.0 others.1)))
+    ∙ ap (λ (ds : List Definition). c.state.definition ∷ ds) (reopened_all_stays session v cs others.0 others.1)))
 
-reopens : (session : ℕ) (w e : WorldState) (new : List ConnectionState) (o : Option (List CellState)) → AreOnTrack w
-    → AllByRecursion (IsOnTrack (roster_of w.cells)) new → reopened_all session w.cells ≡ o
+reopens : (session : ℕ) (v : Version) (w e : WorldState) (new : List ConnectionState) (o : Option (List CellState)) → AreOnTrack w
+    → AllByRecursion (IsOnTrack (roster_of w.cells)) new → reopened_all session v w.cells ≡ o
     → IsReopened o (λ cells. record { cells = cells; connections = new }) w e → AreOnTrack e
-reopens session w e new None track all refused same = subst (λ (x : WorldState). AreOnTrack x) (sym same) track
-reopens session w e new (Some cells) track all made same =
+reopens session v w e new None track all refused same = subst (λ (x : WorldState). AreOnTrack x) (sym same) track
+reopens session v w e new (Some cells) track all made same =
     subst (λ (x : WorldState). AreOnTrack x) (sym same)
-    (with_tables w (record { cells = cells; connections = new }) (reopened_all_stays session w.cells cells made) all)
+    (with_tables w (record { cells = cells; connections = new }) (reopened_all_stays session v w.cells cells made) all)
 
 -- a new connection in place of one that is on track
-begins_anew : (roster : List Definition) (s : ConnectionState) → IsOnTrack roster s → IsOnTrack roster (new_connection roster)
-begins_anew roster s track =
+begins_anew : (v : Version) (roster : List Definition) (s : ConnectionState) → IsOnTrack roster s → IsOnTrack roster (new_connection v roster)
+begins_anew v roster s track =
     let once : repeats_name roster ≡ false = ap (λ (ds : List Definition). repeats_name ds) (sym track.learner) ∙ track.way.2.0 in
     record { known = refl; learner = refl; batches = tt; way = ([], [], (once, tt, tt, (refl, refl), refl, refl, λ i. omega arith), refl) }
 
 breaks : (session : ℕ) (w e : WorldState) (o : Option ConnectionState) → connection_at session w.connections ≡ o → AreOnTrack w → Breaks session o w e → AreOnTrack e
 breaks session w e None none track same = subst (λ (x : WorldState). AreOnTrack x) (sym same) track
 breaks session w e (Some s) found track so =
-    reopens session w e (with_connection session (new_connection (roster_of w.cells)) w.connections) (reopened_all session w.cells) track
-    (set_one (roster_of w.cells) session w.connections (new_connection (roster_of w.cells)) (begins_anew (roster_of w.cells) s (one_of (roster_of w.cells) session w.connections s found track)) track) refl so
+    reopens session s.version w e (with_connection session (new_connection s.version (roster_of w.cells)) w.connections) (reopened_all session s.version w.cells) track
+    (set_one (roster_of w.cells) session w.connections (new_connection s.version (roster_of w.cells)) (begins_anew s.version (roster_of w.cells) s (one_of (roster_of w.cells) session w.connections s found track)) track) refl so
 
 opens_again : (session : ℕ) (w e : WorldState) (o : Option ConnectionState) → AreOnTrack w → Reopens session o w e → AreOnTrack e
 opens_again session w e None track same = subst (λ (x : WorldState). AreOnTrack x) (sym same) track
 opens_again session w e (Some s) track so =
     elim (cases_Bool (list_any (λ (c : CellState). has_out (progress_of session c.state)) w.cells)) [
-      | inl out ↦ subst (λ (x : WorldState). AreOnTrack x) (sym (MatchBool-at_true (e ≡ w) (IsReopened (reopened_all session w.cells) (λ cells. record w { cells = cells }) w e) out so)) track
+      | inl out ↦ subst (λ (x : WorldState). AreOnTrack x) (sym (MatchBool-at_true (e ≡ w) (IsReopened (reopened_all session s.version w.cells) (λ cells. record w { cells = cells }) w e) out so)) track
       | inr none ↦
-          reopens session w e w.connections (reopened_all session w.cells) track track refl
-          (MatchBool-at_false (e ≡ w) (IsReopened (reopened_all session w.cells) (λ cells. record w { cells = cells }) w e) none so)
+          reopens session s.version w e w.connections (reopened_all session s.version w.cells) track track refl
+          (MatchBool-at_false (e ≡ w) (IsReopened (reopened_all session s.version w.cells) (λ cells. record w { cells = cells }) w e) none so)
     ]
 
 -- ---- all steps
@@ -278,13 +279,13 @@ stays w e (steps.Purge table now) other track moves = at_table _ table w e (λ c
 
 -- ---- a new world
 
-pub new_world : (cells : List CellState) (sessions : ℕ) → roster_fault (roster_of cells) ≡ None
-    → AreOnTrack (record { cells = cells; connections = replicate sessions (new_connection (roster_of cells)) })
-new_world cells sessions sound = each sessions
+pub new_world : (cells : List CellState) (spoken : List Version) → roster_fault (roster_of cells) ≡ None
+    → AreOnTrack (record { cells = cells; connections = map (λ version. new_connection version (roster_of cells)) spoken })
+new_world cells spoken sound = each spoken
   where
-    each : (n : ℕ) → AllByRecursion (IsOnTrack (roster_of cells)) (replicate n (new_connection (roster_of cells)))
-    each zero = tt
-    each (suc n) = (begun (roster_of cells) sound, each n)
+    each : (vs : List Version) → AllByRecursion (IsOnTrack (roster_of cells)) (map (λ version. new_connection version (roster_of cells)) vs)
+    each [] = tt
+    each (v ∷ vs) = (begun v (roster_of cells) sound, each vs)
 
 -- ---- bytes
 

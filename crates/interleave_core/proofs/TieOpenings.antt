@@ -4,6 +4,7 @@ use Rattle.std.specs.Prelude.{nat_eq, nat_lt, option_and_then, option_map}
 use Rattle.std.specs.List.{AllByRecursion, list_any}
 use Rattle.std.proofs.lemmas.Bool.{cases_Bool, cond-true, eq-eqb, ne_eqb, ltb-false}
 use Rattle.table_types.specs.declared.update.Update.{Update}
+use Rattle.table_types.specs.declared.version.Version.{Version}
 use Rattle.table_types.specs.Tables.{Definition}
 use Rattle.table_types.specs.Rosters.{has_id}
 use Rattle.known_state.specs.Known.{is_in}
@@ -12,7 +13,7 @@ use Rattle.table_cell.specs.declared.events.CellReply.TheVariants as replies
 use Rattle.table_cell.specs.declared.progress.Progress.{Progress}
 use Rattle.table_cell.specs.Machine.{has_out, no_progress, progress_of}
 use Rattle.table_cell.specs.Histories.{CellState, Made}
-use Rattle.table_cell.specs.Handing.{handed_since, numbers}
+use Rattle.table_cell.specs.Handing.{numbers}
 use Rattle.interleave_core.specs.Moves.{closed, opened, reopened_all}
 use Rattle.interleave_core.specs.Sound.{acked_numbers}
 use Rattle.interleave_core.specs.Ties.{AreTied, IsJustOpened, IsTiedTo, Share, joined, of_table, opened_share, share_of}
@@ -26,91 +27,91 @@ use Rattle.interleave_core.proofs.TieSteps.{HasTie}
 -- ---- each table, closed and opened
 
 -- the table is what another is after the session was closed and opened
-abbrev pub IsReopenedFrom : ℕ → CellState → CellState → Type 0
-IsReopenedFrom n c e = (mid : CellState) × Made c (events.Close n) replies.Close mid × Made mid (events.Open n) replies.Open e
+abbrev pub IsReopenedFrom : ℕ → Version → CellState → CellState → Type 0
+IsReopenedFrom n v c e = (mid : CellState) × Made c (events.Close n) replies.Close mid × Made mid (events.Open n v) replies.Open e
 
 pub same_cells : (a b : List CellState) → ◌≡◌ {A = Option (List CellState)} (Some a) (Some b) → a ≡ b
 same_cells a b is = cc
 
 -- the table between the two
-pub between : (n : ℕ) (c e : CellState) → option_and_then (opened n) (closed n c) ≡ Some e → (mid : CellState) × (closed n c ≡ Some mid) × (opened n mid ≡ Some e)
-between n c e is = by (closed n c) refl is
+pub between : (n : ℕ) (v : Version) (c e : CellState) → option_and_then (opened n v) (closed n c) ≡ Some e → (mid : CellState) × (closed n c ≡ Some mid) × (opened n v mid ≡ Some e)
+between n v c e is = by (closed n c) refl is
   where
-    by : (o : Option CellState) → closed n c ≡ o → option_and_then (opened n) o ≡ Some e → (mid : CellState) × (closed n c ≡ Some mid) × (opened n mid ≡ Some e)
+    by : (o : Option CellState) → closed n c ≡ o → option_and_then (opened n v) o ≡ Some e → (mid : CellState) × (closed n c ≡ Some mid) × (opened n v mid ≡ Some e)
     by None at then = absurd (none_there e then)
     by (Some mid) at then = (mid, at, then)
 
-one_reopened : (n : ℕ) (c e : CellState) → option_and_then (opened n) (closed n c) ≡ Some e → IsReopenedFrom n c e
-one_reopened n c e is = let (mid, closing, opening) = between n c e is in (mid, closed_made n c mid closing, opened_made n mid e opening)
+one_reopened : (n : ℕ) (v : Version) (c e : CellState) → option_and_then (opened n v) (closed n c) ≡ Some e → IsReopenedFrom n v c e
+one_reopened n v c e is = let (mid, closing, opening) = between n v c e is in (mid, closed_made n c mid closing, opened_made n v mid e opening)
 
 -- the first table and the others
-pub parts : (n : ℕ) (c : CellState) (cs after : List CellState) → reopened_all n (c ∷ cs) ≡ Some after
-    → (first : CellState) × (rest : List CellState) × (option_and_then (opened n) (closed n c) ≡ Some first) × (reopened_all n cs ≡ Some rest) × (first ∷ rest ≡ after)
-parts n c cs after all = by (option_and_then (opened n) (closed n c)) refl all
+pub parts : (n : ℕ) (v : Version) (c : CellState) (cs after : List CellState) → reopened_all n v (c ∷ cs) ≡ Some after
+    → (first : CellState) × (rest : List CellState) × (option_and_then (opened n v) (closed n c) ≡ Some first) × (reopened_all n v cs ≡ Some rest) × (first ∷ rest ≡ after)
+parts n v c cs after all = by (option_and_then (opened n v) (closed n c)) refl all
   where
-    of_rest : (first : CellState) → option_and_then (opened n) (closed n c) ≡ Some first → (o : Option (List CellState)) → reopened_all n cs ≡ o → option_map (λ (rest : List CellState). first ∷ rest) o ≡ Some after
-        → (first : CellState) × (rest : List CellState) × (option_and_then (opened n) (closed n c) ≡ Some first) × (reopened_all n cs ≡ Some rest) × (first ∷ rest ≡ after)
+    of_rest : (first : CellState) → option_and_then (opened n v) (closed n c) ≡ Some first → (o : Option (List CellState)) → reopened_all n v cs ≡ o → option_map (λ (rest : List CellState). first ∷ rest) o ≡ Some after
+        → (first : CellState) × (rest : List CellState) × (option_and_then (opened n v) (closed n c) ≡ Some first) × (reopened_all n v cs ≡ Some rest) × (first ∷ rest ≡ after)
     of_rest first is None at joined = absurd (none_there after joined)
     of_rest first is (Some rest) at joined = (first, rest, is, at, same_cells (first ∷ rest) after joined)
 
-    by : (o : Option CellState) → option_and_then (opened n) (closed n c) ≡ o → option_and_then (λ (first : CellState). option_map (λ (rest : List CellState). first ∷ rest) (reopened_all n cs)) o ≡ Some after
-        → (first : CellState) × (rest : List CellState) × (option_and_then (opened n) (closed n c) ≡ Some first) × (reopened_all n cs ≡ Some rest) × (first ∷ rest ≡ after)
+    by : (o : Option CellState) → option_and_then (opened n v) (closed n c) ≡ o → option_and_then (λ (first : CellState). option_map (λ (rest : List CellState). first ∷ rest) (reopened_all n v cs)) o ≡ Some after
+        → (first : CellState) × (rest : List CellState) × (option_and_then (opened n v) (closed n c) ≡ Some first) × (reopened_all n v cs ≡ Some rest) × (first ∷ rest ≡ after)
     by None is then = absurd (none_there after then)
-    by (Some first) is then = of_rest first is (reopened_all n cs) refl then
+    by (Some first) is then = of_rest first is (reopened_all n v cs) refl then
 
-reopened_id : (n : ℕ) (c e : CellState) → IsReopenedFrom n c e → e.state.definition.id ≡ c.state.definition.id
-reopened_id n c e (mid, closing, opening) = same_id mid e (events.Open n) replies.Open opening ∙ same_id c mid (events.Close n) replies.Close closing
+reopened_id : (n : ℕ) (v : Version) (c e : CellState) → IsReopenedFrom n v c e → e.state.definition.id ≡ c.state.definition.id
+reopened_id n v c e (mid, closing, opening) = same_id mid e (events.Open n v) replies.Open opening ∙ same_id c mid (events.Close n) replies.Close closing
 
 -- each table of `after` was opened anew from the table of `cells` with its id
-pub each_reopened : (n : ℕ) (cells after : List CellState) → reopened_all n cells ≡ Some after → (t : ℕ) (e : CellState) → cell_at t after ≡ Some e
-    → (c : CellState) × (cell_at t cells ≡ Some c) × IsReopenedFrom n c e
-each_reopened n [] after all t e at = absurd (none_there e (ap (cell_at t) (same_cells [] after all) ∙ at))
-each_reopened n (c ∷ cs) after all t e at =
-    let (first, rest, at_first, others, is) = parts n c cs after all in
-    let from = one_reopened n c first at_first in
+pub each_reopened : (n : ℕ) (v : Version) (cells after : List CellState) → reopened_all n v cells ≡ Some after → (t : ℕ) (e : CellState) → cell_at t after ≡ Some e
+    → (c : CellState) × (cell_at t cells ≡ Some c) × IsReopenedFrom n v c e
+each_reopened n v [] after all t e at = absurd (none_there e (ap (cell_at t) (same_cells [] after all) ∙ at))
+each_reopened n v (c ∷ cs) after all t e at =
+    let (first, rest, at_first, others, is) = parts n v c cs after all in
+    let from = one_reopened n v c first at_first in
     let found : cell_at t (first ∷ rest) ≡ Some e = ap (cell_at t) is ∙ at in
-    let id = reopened_id n c first from in
+    let id = reopened_id n v c first from in
     elim (cases_Bool (is_table t first)) [
       | inl here ↦
           let same = same_one first e (sym (at_here t first rest here) ∙ found) in
-          (c, at_here t c cs (ap (λ (k : ℕ). nat_eq k t) (sym id) ∙ here), subst (IsReopenedFrom n c) same from)
+          (c, at_here t c cs (ap (λ (k : ℕ). nat_eq k t) (sym id) ∙ here), subst (IsReopenedFrom n v c) same from)
       | inr past ↦
-          let later = each_reopened n cs rest others t e (sym (at_there t first rest past) ∙ found) in
+          let later = each_reopened n v cs rest others t e (sym (at_there t first rest past) ∙ found) in
           (later.0, at_there t c cs (ap (λ (k : ℕ). nat_eq k t) (sym id) ∙ past) ∙ later.1, later.2)
     ]
 
 -- ---- another session
 
-pub others_reopened : (n m before : ℕ) (s : ConnectionState) (acks : List (ℕ × ℕ)) (cells after : List CellState) → m ≢ n → reopened_all n cells ≡ Some after
+pub others_reopened : (n : ℕ) (v : Version) (m before : ℕ) (s : ConnectionState) (acks : List (ℕ × ℕ)) (cells after : List CellState) → m ≢ n → reopened_all n v cells ≡ Some after
     → AreTied m before s acks cells → AreTied m before s acks after
-others_reopened n m before s acks cells after other all ties = record { within = ties.within; each = each }
+others_reopened n v m before s acks cells after other all ties = record { within = ties.within; each = each }
   where
     apart : nat_eq n m ≡ false
     apart = ne_eqb n m (λ same. other (sym same))
 
     each : (t : ℕ) (e : CellState) → cell_at t after ≡ Some e → HasTie m before s acks t e
     each t e at =
-        let (c, found, (mid, closing, opening)) = each_reopened n cells after all t e at in
+        let (c, found, (mid, closing, opening)) = each_reopened n v cells after all t e at in
         let old = ties.each t c found in
-        (old.0, other_tied m (share_of t before s acks) mid e (events.Open n) replies.Open old.0 apart opening (other_tied m (share_of t before s acks) c mid (events.Close n) replies.Close old.0 apart closing old.1))
+        (old.0, other_tied m (share_of t before s acks) mid e (events.Open n v) replies.Open old.0 apart opening (other_tied m (share_of t before s acks) c mid (events.Close n) replies.Close old.0 apart closing old.1))
 
 -- ---- a new connection
 
-pub fresh_ties : (n : ℕ) (roster : List Definition) (cells : List CellState)
+pub fresh_ties : (n : ℕ) (v : Version) (roster : List Definition) (cells : List CellState)
     → ((t : ℕ) (c : CellState) → cell_at t cells ≡ Some c → IsJustOpened n c)
-    → AreTied n 0 (new_connection roster) [] cells
-fresh_ties n roster cells just = record {
+    → AreTied n 0 (new_connection v roster) [] cells
+fresh_ties n v roster cells just = record {
   within = omega arith;
-  each = λ t c at. (no_progress (just t c at).0, record { progress = (just t c at).1; same = sym (just t c at).2; tied = none_tied; from = tt });
+  each = λ t c at. (no_progress (just t c at).0 (just t c at).1, record { progress = (just t c at).2; same = sym (just t c at).3; tied = none_tied; from = tt });
 }
 
-pub new_ties : (n : ℕ) (roster : List Definition) (cells after : List CellState) → reopened_all n cells ≡ Some after → AreTied n 0 (new_connection roster) [] after
-new_ties n roster cells after all = record { within = omega arith; each = each }
+pub new_ties : (n : ℕ) (v : Version) (roster : List Definition) (cells after : List CellState) → reopened_all n v cells ≡ Some after → AreTied n 0 (new_connection v roster) [] after
+new_ties n v roster cells after all = record { within = omega arith; each = each }
   where
-    each : (t : ℕ) (e : CellState) → cell_at t after ≡ Some e → HasTie n 0 (new_connection roster) [] t e
+    each : (t : ℕ) (e : CellState) → cell_at t after ≡ Some e → HasTie n 0 (new_connection v roster) [] t e
     each t e at =
-        let (c, found, (mid, closing, opening)) = each_reopened n cells after all t e at in
-        (no_progress mid.state.next, open_tied n [] mid e replies.Open opening tt)
+        let (c, found, (mid, closing, opening)) = each_reopened n v cells after all t e at in
+        (no_progress v mid.state.next, open_tied n v [] mid e replies.Open opening tt)
 
 -- ---- the same connection
 
@@ -174,11 +175,11 @@ at_rest n t before s acks to_come c p within split quiet tie =
     record { arrived = two.0; taught = two.1; answered = rest.1; due = rest.2 }
 
 -- no batch is out, and the session is opened anew
-pub still_ties : (n before : ℕ) (s : ConnectionState) (acks : List (ℕ × ℕ)) (to_come : List Update) (cells after : List CellState) → s.taught ≡ s.applied ++ to_come
+pub still_ties : (n : ℕ) (v : Version) (before : ℕ) (s : ConnectionState) (acks : List (ℕ × ℕ)) (to_come : List Update) (cells after : List CellState) → s.taught ≡ s.applied ++ to_come
     → AllByRecursion (λ (u : Update). has_id u.table (roster_of cells) ≡ true) to_come
-    → list_any (λ (c : CellState). has_out (progress_of n c.state)) cells ≡ false → reopened_all n cells ≡ Some after
+    → list_any (λ (c : CellState). has_out (progress_of n c.state)) cells ≡ false → reopened_all n v cells ≡ Some after
     → AreTied n before s acks cells → (to_come ≡ []) × AreTied n (length s.taught) s acks after
-still_ties n before s acks to_come cells after split known quiet all ties =
+still_ties n v before s acks to_come cells after split known quiet all ties =
     (nothing, record { within = subst (λ (l : List Update). length l ≤ length s.applied) (sym all_applied) (omega arith); each = each })
   where
     rest_at : (t : ℕ) (c : CellState) → cell_at t cells ≡ Some c → IsAtRest t before s acks to_come
@@ -194,7 +195,7 @@ still_ties n before s acks to_come cells after split known quiet all ties =
 
     each : (t : ℕ) (e : CellState) → cell_at t after ≡ Some e → HasTie n (length s.taught) s acks t e
     each t e at =
-        let (c, found, (mid, closing, opening)) = each_reopened n cells after all t e at in
+        let (c, found, (mid, closing, opening)) = each_reopened n v cells after all t e at in
         let old = ties.each t c found in
         let rest = rest_at t c found in
         let all_of = of_table t (s.taught ++ joined s.copied) in
@@ -204,4 +205,4 @@ still_ties n before s acks to_come cells after split known quiet all ties =
         (ap (λ (l : List Update). of_table t (l ++ joined s.copied)) (drop_all (length s.taught) s.taught (omega arith)) ∙ rest.taught)
         (ap (of_table t) (drop_all (length s.taught) s.applied (subst (λ (l : List Update). length s.applied ≤ length l) (sym all_applied) (omega arith))))
         rest.answered rest.due) in
-        (no_progress mid.state.next, subst (λ (x : Share). IsTiedTo n x e (no_progress mid.state.next)) is (open_tied n all_of mid e replies.Open opening copied))
+        (no_progress v mid.state.next, subst (λ (x : Share). IsTiedTo n x e (no_progress v mid.state.next)) is (open_tied n v all_of mid e replies.Open opening copied))

@@ -6,6 +6,7 @@ use Rattle.std.proofs.lemmas.Bool.{cond-true, cond-false, eq-eqb, lt-leb}
 use Rattle.std.proofs.lemmas.List.{map-append}
 use Rattle.std.proofs.lemmas.List.Sums.{fold_push}
 use Rattle.table_types.specs.declared.update.Update.{Update}
+use Rattle.table_types.specs.declared.version.Version.{Version}
 use Rattle.table_types.specs.declared.copies.CopyKind.{CopyKind}
 use Rattle.table_cell.specs.declared.events.CellEvent.{CellEvent}
 use Rattle.table_cell.specs.declared.events.CellEvent.TheVariants as events
@@ -31,7 +32,7 @@ same_definition s e (events.Track seat key change now) reply (granted, rest, lea
 same_definition s e (events.Learn session u now) reply (granted, rest, leaves, answer, is) = ap (λ (x : TableState). x.definition) is
 same_definition s e (events.Copy session kind limit now) reply (granted, answer, is) = ap (λ (x : TableState). x.definition) is
 same_definition s e (events.Ack session number) reply (granted, answer, is) = ap (λ (x : TableState). x.definition) is
-same_definition s e (events.Open session) reply (granted, answer, is) = ap (λ (x : TableState). x.definition) is
+same_definition s e (events.Open session version) reply (granted, answer, is) = ap (λ (x : TableState). x.definition) is
 same_definition s e (events.Close session) reply (granted, answer, is) = ap (λ (x : TableState). x.definition) is
 same_definition s e (events.Purge now) reply (granted, answer, is) = ap (λ (x : TableState). x.definition) is
 
@@ -162,13 +163,13 @@ is_absent : (o : Option Progress) → is_some o ≡ false → o ≡ None
 is_absent None none = refl
 is_absent (Some p) none = absurd (true≢false none)
 
-pub open_tied : (n : ℕ) (all : List Update) (c e : CellState) (reply : CellReply) → Made c (events.Open n) reply e → AllByRecursion (WasCopied n c.history) all
-    → IsTiedTo n (opened_share all) e (no_progress c.state.next)
-open_tied n all c e reply made copied = record {
-  progress = ap (progress_of n) made.0.2 ∙ own_end n (no_progress c.state.next) c.state.sessions (is_absent (progress_of n c.state) (passes (is_some (progress_of n c.state)) _ _ made.0.0).0);
-  same = sym (handed_made n c e (events.Open n) reply made ∙ handed_open n (handed_since n c.history) reply);
+pub open_tied : (n : ℕ) (v : Version) (all : List Update) (c e : CellState) (reply : CellReply) → Made c (events.Open n v) reply e → AllByRecursion (WasCopied n c.history) all
+    → IsTiedTo n (opened_share all) e (no_progress v c.state.next)
+open_tied n v all c e reply made copied = record {
+  progress = ap (progress_of n) made.0.2 ∙ own_end n (no_progress v c.state.next) c.state.sessions (is_absent (progress_of n c.state) (passes (is_some (progress_of n c.state)) _ _ made.0.0).0);
+  same = sym (handed_made n c e (events.Open n v) reply made ∙ handed_open n v (handed_since n c.history) reply);
   tied = none_tied;
-  from = all_still n c e (events.Open n) reply all made copied;
+  from = all_still n c e (events.Open n v) reply all made copied;
 }
 
 -- ---- the calls that compute
@@ -194,11 +195,11 @@ closed_made n c e is =
     let free = close_granted (is_history_full c) c.state n found.0 in
     subst (λ (x : CellState). Made c (events.Close n) replies.Close x) found.1 ((free.1, refl, refl), refl)
 
-pub opened_made : (n : ℕ) (c e : CellState) → opened n c ≡ Some e → Made c (events.Open n) replies.Open e
-opened_made n c e is =
+pub opened_made : (n : ℕ) (v : Version) (c e : CellState) → opened n v c ≡ Some e → Made c (events.Open n v) replies.Open e
+opened_made n v c e is =
     let found = not_refused (open_refusal (is_history_full c) c.state n) _ e is in
     let free = open_granted (is_history_full c) c.state n found.0 in
-    subst (λ (x : CellState). Made c (events.Open n) replies.Open x) found.1 ((free.1, refl, refl), refl)
+    subst (λ (x : CellState). Made c (events.Open n v) replies.Open x) found.1 ((free.1, refl, refl), refl)
 
 -- they need room for another event
 pub acked_room : (n number : ℕ) (c e : CellState) → acked n number c ≡ Some e → is_history_full c ≡ false
@@ -207,5 +208,5 @@ acked_room n number c e is = (ack_free (is_history_full c) c.state n number (not
 pub closed_room : (n : ℕ) (c e : CellState) → closed n c ≡ Some e → is_history_full c ≡ false
 closed_room n c e is = (close_granted (is_history_full c) c.state n (not_refused (close_refusal (is_history_full c) c.state n) _ e is).0).0
 
-pub opened_room : (n : ℕ) (c e : CellState) → opened n c ≡ Some e → is_history_full c ≡ false
-opened_room n c e is = (open_granted (is_history_full c) c.state n (not_refused (open_refusal (is_history_full c) c.state n) _ e is).0).0
+pub opened_room : (n : ℕ) (v : Version) (c e : CellState) → opened n v c ≡ Some e → is_history_full c ≡ false
+opened_room n v c e is = (open_granted (is_history_full c) c.state n (not_refused (open_refusal (is_history_full c) c.state n) _ e is).0).0

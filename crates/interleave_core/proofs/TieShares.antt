@@ -29,7 +29,7 @@ none_of_others t table (u ∷ us) other (this, rest) =
 
 -- ---- a batch waits
 
-joined_end : (batches : List (List Update)) (us : List Update) → joined (batches ++ us ∷ []) ≡ joined batches ++ us
+pub joined_end : (batches : List (List Update)) (us : List Update) → joined (batches ++ us ∷ []) ≡ joined batches ++ us
 joined_end batches us = flat_map-append (λ (b : List Update). b) batches (us ∷ []) ∙ ap (λ (l : List Update). joined batches ++ l) (append-nil us)
 
 pub waits : (t : ℕ) (xs : List Update) (batches : List (List Update)) (us : List Update)

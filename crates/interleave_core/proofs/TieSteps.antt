@@ -10,7 +10,7 @@ use Rattle.table_cell.specs.declared.events.CellEvent.TheVariants as events
 use Rattle.table_cell.specs.declared.events.CellReply.{CellReply}
 use Rattle.table_cell.specs.declared.events.CellReply.TheVariants as replies
 use Rattle.table_cell.specs.declared.progress.Progress.{Progress}
-use Rattle.table_cell.specs.Machine.{unacked}
+use Rattle.table_cell.specs.Machine.{progress_of, unacked, version_by}
 use Rattle.table_cell.specs.Copying.{update_of}
 use Rattle.table_cell.specs.Histories.{CellState, Made}
 use Rattle.table_cell.specs.Handing.{KeepsUp, is_about, numbers}
@@ -46,7 +46,7 @@ pub copied_here : (n limit now table : ℕ) (kind : CopyKind) (us : List Update)
 copied_here n limit now table kind us c e id made =
     subst (AllByRecursion (λ (u : Update). u.table ≡ table)) (sym (same_batch us (unacked c.state n kind now limit) made.0.1)) (first limit _)
   where
-    all : (rows : List _) → AllByRecursion (λ (u : Update). u.table ≡ table) (map (update_of c.state.definition now) rows)
+    all : (rows : List _) → AllByRecursion (λ (u : Update). u.table ≡ table) (map (update_of (version_by (progress_of n c.state)) c.state.definition now) rows)
     all [] = tt
     all (x ∷ xs) = (id, all xs)
 
@@ -55,8 +55,8 @@ copied_here n limit now table kind us c e id made =
     some (Rattle.std.proofs.Common.suc k) [] each = tt
     some (Rattle.std.proofs.Common.suc k) (v ∷ vs) (one, rest) = (one, some k vs rest)
 
-    first : (k : ℕ) (rows : List _) → AllByRecursion (λ (u : Update). u.table ≡ table) (take k (map (update_of c.state.definition now) rows))
-    first k rows = some k (map (update_of c.state.definition now) rows) (all rows)
+    first : (k : ℕ) (rows : List _) → AllByRecursion (λ (u : Update). u.table ≡ table) (take k (map (update_of (version_by (progress_of n c.state)) c.state.definition now) rows))
+    first k rows = some k (map (update_of (version_by (progress_of n c.state)) c.state.definition now) rows) (all rows)
 
 pub copy_event : (n before limit now table : ℕ) (kind : CopyKind) (us : List Update) (s : ConnectionState) (acks : List (ℕ × ℕ)) (cells : List CellState) (c e : CellState)
     → KeepsUp n e → cell_at table cells ≡ Some c → Made c (events.Copy n kind limit now) (replies.Copy us) e → AreTied n before s acks cells

@@ -3,6 +3,7 @@ use Rattle.std.proofs.Common.{◌≡◌, ℕ, false, List, [], ◌∷◌, Some, 
 use Rattle.std.specs.List.{AllByRecursion}
 use Rattle.std.proofs.lemmas.Bool.{cases_Bool}
 use Rattle.table_types.specs.Tables.{Definition}
+use Rattle.table_types.specs.declared.version.Version.{Version}
 use Rattle.table_cell.specs.declared.events.CellEvent.{CellEvent}
 use Rattle.table_cell.specs.declared.events.CellEvent.TheVariants as events
 use Rattle.table_cell.specs.declared.events.CellReply.{CellReply}
@@ -82,17 +83,17 @@ one_made c e event reply timely room made table = record {
   keep = λ n. made_keeps c e event reply n table.sound made (table.keep n);
 }
 
-pub tables_reopened : (n : ℕ) (cells after : List CellState) → reopened_all n cells ≡ Some after → AreSoundTables cells → AreSoundTables after × (roster_of after ≡ roster_of cells)
-tables_reopened n [] after all tables = let is = same_cells [] after all in (subst AreSoundTables is tables, ap roster_of (sym is))
-tables_reopened n (c ∷ cs) after all tables =
-    let (first, rest, at_first, at_rest, is) = parts n c cs after all in
-    let (mid, closing, opening) = between n c first at_first in
+pub tables_reopened : (n : ℕ) (v : Version) (cells after : List CellState) → reopened_all n v cells ≡ Some after → AreSoundTables cells → AreSoundTables after × (roster_of after ≡ roster_of cells)
+tables_reopened n v [] after all tables = let is = same_cells [] after all in (subst AreSoundTables is tables, ap roster_of (sym is))
+tables_reopened n v (c ∷ cs) after all tables =
+    let (first, rest, at_first, at_rest, is) = parts n v c cs after all in
+    let (mid, closing, opening) = between n v c first at_first in
     let closed_now = closed_made n c mid closing in
-    let opened_now = opened_made n mid first opening in
-    let table = one_made mid first (events.Open n) replies.Open tt (opened_room n mid first opening) opened_now
+    let opened_now = opened_made n v mid first opening in
+    let table = one_made mid first (events.Open n v) replies.Open tt (opened_room n v mid first opening) opened_now
     (one_made c mid (events.Close n) replies.Close tt (closed_room n c mid closing) closed_now (record { sound = tables.sound.0; keep = λ m. (tables.keep m).0 })) in
-    let others = tables_reopened n cs rest at_rest (record { sound = tables.sound.1; keep = λ m. (tables.keep m).1 }) in
-    let same : first.state.definition ≡ c.state.definition = same_table mid first (events.Open n) replies.Open opened_now ∙ same_table c mid (events.Close n) replies.Close closed_now in
+    let others = tables_reopened n v cs rest at_rest (record { sound = tables.sound.1; keep = λ m. (tables.keep m).1 }) in
+    let same : first.state.definition ≡ c.state.definition = same_table mid first (events.Open n v) replies.Open opened_now ∙ same_table c mid (events.Close n) replies.Close closed_now in
     let all_sound : AreSoundTables (first ∷ rest) = record { sound = (table.sound, others.0.sound); keep = λ m. (table.keep m, others.0.keep m) } in
     let rosters : roster_of (first ∷ rest) ≡ roster_of (c ∷ cs) =
     ap (λ (d : Definition). d ∷ roster_of rest) same ∙ ap (λ (ds : List Definition). c.state.definition ∷ ds) others.1 in

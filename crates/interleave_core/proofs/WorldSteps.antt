@@ -149,7 +149,7 @@ refused_copy session limit now kind c e uncopied.MomentBack (refused, same) = sa
 refused_copy session limit now kind c e uncopied.Memory (refused, same) = same
 
 -- what a sound table copies is a batch for the roster
-batch_here : (w : WorldState) (session t limit now : ℕ) (kind : CopyKind) (c e : CellState) (us : List Update) → IsSoundWorld w → cell_at t w.cells ≡ Some c → limit ≤ 512
+batch_here : (w : WorldState) (session t limit now : ℕ) (kind : CopyKind) (c e : CellState) (us : List Update) → IsSoundWorld w → cell_at t w.cells ≡ Some c → limit ≤ 4096
     → Made c (events.Copy session kind limit now) (replies.Copy us) e → IsBatchFor (roster_of w.cells) us
 batch_here w session t limit now kind c e us sound at few made =
     let granted = (copy_granted false c.state session kind limit now made.0.0).1 in
@@ -157,7 +157,7 @@ batch_here w session t limit now kind c e us sound at few made =
     let listed = ap (λ (k : ℕ). Rattle.table_types.specs.Rosters.table_at (roster_of w.cells) k) (found_id t c w.cells at) ∙ in_roster t c w.cells at in
     subst (IsBatchFor (roster_of w.cells)) (sym (same_batch us (unacked c.state session kind now limit) made.0.1)) (batch_of_one c.state.definition (roster_of w.cells) (unacked c.state session kind now limit) listed of_one)
 
-copied : (w e : WorldState) (session t limit now : ℕ) (kind : CopyKind) → IsSoundWorld w → now < 2 ^ 63 → limit ≤ 512
+copied : (w e : WorldState) (session t limit now : ℕ) (kind : CopyKind) → IsSoundWorld w → now < 2 ^ 63 → limit ≤ 4096
     → CopiesFor session t kind limit now (cell_at t w.cells) (connection_at session w.connections) w e → IsSoundWorld e
 copied w e session t limit now kind sound timely few moves = by (cell_at t w.cells) refl (connection_at session w.connections) refl moves
   where
@@ -277,27 +277,27 @@ read w e session count s sound found (ms, received, left, are_read, waits, arriv
 -- ---- the session is opened anew
 
 broken : (w e : WorldState) (session : ℕ) (s : ConnectionState) → IsSoundWorld w → connection_at session w.connections ≡ Some s
-    → IsReopened (reopened_all session w.cells) (λ cells. record { cells = cells; connections = with_connection session (new_connection (roster_of w.cells)) w.connections }) w e → IsSoundWorld e
-broken w e session s sound found reopens = by (reopened_all session w.cells) refl reopens
+    → IsReopened (reopened_all session s.version w.cells) (λ cells. record { cells = cells; connections = with_connection session (new_connection s.version (roster_of w.cells)) w.connections }) w e → IsSoundWorld e
+broken w e session s sound found reopens = by (reopened_all session s.version w.cells) refl reopens
   where
-    by : (o : Option (List CellState)) → reopened_all session w.cells ≡ o
-        → IsReopened o (λ cells. record { cells = cells; connections = with_connection session (new_connection (roster_of w.cells)) w.connections }) w e → IsSoundWorld e
+    by : (o : Option (List CellState)) → reopened_all session s.version w.cells ≡ o
+        → IsReopened o (λ cells. record { cells = cells; connections = with_connection session (new_connection s.version (roster_of w.cells)) w.connections }) w e → IsSoundWorld e
     by None all same = unchanged w e sound same
     by (Some after) all is =
-        let tables = tables_reopened session w.cells after all sound.tables in
+        let tables = tables_reopened session s.version w.cells after all sound.tables in
         subst IsSoundWorld (sym is)
-        (one_session w session (new_connection (roster_of w.cells)) after sound tables (
+        (one_session w session (new_connection s.version (roster_of w.cells)) after sound tables (
           0,
           [],
-          subst (λ (ds : List Definition). IsSoundConnection ds (new_connection (roster_of w.cells)) []) (sym tables.1) (connections.begun (roster_of w.cells) sound.roster),
-          new_ties session (roster_of w.cells) w.cells after all,
+          subst (λ (ds : List Definition). IsSoundConnection ds (new_connection s.version (roster_of w.cells)) []) (sym tables.1) (connections.begun s.version (roster_of w.cells) sound.roster),
+          new_ties session s.version (roster_of w.cells) w.cells after all,
         )
-        (λ n b x others differs old. others_reopened session n b x others w.cells after differs all old))
+        (λ n b x others differs old. others_reopened session s.version n b x others w.cells after differs all old))
 
 -- what fits a roster is of one of its tables
 listed_each : (roster : List Definition) (us : List Update) → AllByRecursion (IsUpdateFor roster) us → AllByRecursion (λ (u : Update). has_id u.table roster ≡ true) us
 listed_each roster [] all = tt
-listed_each roster (u ∷ us) ((d, at, fit, life), others) =
+listed_each roster (u ∷ us) ((d, at, fit), others) =
     (has_id-table_at roster u.table ∙ ap (λ (o : Option Definition). is_some o) at, listed_each roster us others)
 
 all_behind : (P : Update → Type 0) (us vs : List Update) → AllByRecursion P (us ++ vs) → AllByRecursion P vs
@@ -306,21 +306,21 @@ all_behind P (u ∷ us) vs (first, rest) = all_behind P us vs rest
 
 reopened : (w e : WorldState) (session : ℕ) (s : ConnectionState) → IsSoundWorld w → connection_at session w.connections ≡ Some s
     → list_any (λ (c : CellState). has_out (progress_of session c.state)) w.cells ≡ false
-    → IsReopened (reopened_all session w.cells) (λ cells. record w { cells = cells }) w e → IsSoundWorld e
-reopened w e session s sound found quiet reopens = by (reopened_all session w.cells) refl reopens
+    → IsReopened (reopened_all session s.version w.cells) (λ cells. record w { cells = cells }) w e → IsSoundWorld e
+reopened w e session s sound found quiet reopens = by (reopened_all session s.version w.cells) refl reopens
   where
-    by : (o : Option (List CellState)) → reopened_all session w.cells ≡ o → IsReopened o (λ cells. record w { cells = cells }) w e → IsSoundWorld e
+    by : (o : Option (List CellState)) → reopened_all session s.version w.cells ≡ o → IsReopened o (λ cells. record w { cells = cells }) w e → IsSoundWorld e
     by None all same = unchanged w e sound same
     by (Some after) all is =
-        let tables = tables_reopened session w.cells after all sound.tables in
+        let tables = tables_reopened session s.version w.cells after all sound.tables in
         let (before, acks, connection, ties) = sound.sessions session s found in
         let to_come = connection.track.way.1 in
         let known = listed_each (roster_of w.cells) to_come (all_behind (IsUpdateFor (roster_of w.cells)) s.applied to_come (subst (AllByRecursion (IsUpdateFor (roster_of w.cells))) connection.track.way.3 connection.taught)) in
-        let still = still_ties session before s acks to_come w.cells after connection.track.way.3 known quiet all ties in
+        let still = still_ties session s.version before s acks to_come w.cells after connection.track.way.3 known quiet all ties in
         subst IsSoundWorld (sym (is ∙ ap (λ (l : List ConnectionState). record { cells = after; connections = l }) (sym (same_connections session s w.connections found))))
         (one_session w session s after sound tables
         (length s.taught, acks, subst (λ (ds : List Definition). IsSoundConnection ds s acks) (sym tables.1) connection, still.1)
-        (λ n b x others differs old. others_reopened session n b x others w.cells after differs all old))
+        (λ n b x others differs old. others_reopened session s.version n b x others w.cells after differs all old))
 
 -- ---- any step
 
@@ -340,7 +340,7 @@ reopens : (w e : WorldState) (session : ℕ) (o : Option ConnectionState) → Is
     → Rattle.interleave_core.specs.Moves.Reopens session o w e → IsSoundWorld e
 reopens w e session None sound found same = unchanged w e sound same
 reopens w e session (Some s) sound found moves =
-    each_side (list_any (λ (c : CellState). has_out (progress_of session c.state)) w.cells) (e ≡ w) (IsReopened (reopened_all session w.cells) (λ cells. record w { cells = cells }) w e) (IsSoundWorld e) moves
+    each_side (list_any (λ (c : CellState). has_out (progress_of session c.state)) w.cells) (e ≡ w) (IsReopened (reopened_all session s.version w.cells) (λ cells. record w { cells = cells }) w e) (IsSoundWorld e) moves
     (λ out. unchanged w e sound) (λ quiet. reopened w e session s sound found quiet)
 
 learns : (w e : WorldState) (session now : ℕ) (u : Update) (o : Option ConnectionState) → IsSoundWorld w → now < 2 ^ 63 → LearnsFor session u now o w e → IsSoundWorld e

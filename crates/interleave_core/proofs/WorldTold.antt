@@ -12,6 +12,7 @@ use Rattle.table_types.specs.Keys.{key_cmp}
 use Rattle.table_types.specs.Rosters.{roster_fault, table_at}
 use Rattle.table_types.specs.Rows.{StoredRow, row_of}
 use Rattle.table_types.specs.Tables.{Definition}
+use Rattle.table_types.specs.declared.version.Version.{Version}
 use Rattle.table_types.proofs.EqualKeysAreOne.{one_key}
 use Rattle.known_state.specs.Known.{known_of}
 use Rattle.learner.specs.declared.fault.Fault.{Fault}
@@ -316,15 +317,16 @@ arrived_if_full w session count s ms received left sound found read =
 -- ---- a new world
 
 pub new_sound : (w : WorldState) → roster_fault (roster_of w.cells) ≡ None → AreSoundTables w.cells
-    → ((session : ℕ) (s : ConnectionState) → connection_at session w.connections ≡ Some s → s ≡ new_connection (roster_of w.cells))
+    → ((session : ℕ) (s : ConnectionState) → connection_at session w.connections ≡ Some s → (version : Version) × (s ≡ new_connection version (roster_of w.cells)))
     → ((session t : ℕ) (s : ConnectionState) (c : CellState) → connection_at session w.connections ≡ Some s → cell_at t w.cells ≡ Some c → IsJustOpened session c)
     → IsSoundWorld w
 new_sound w fault tables new just = record {
   roster = fault;
   tables = tables;
   sessions = λ n s found.
-      subst (λ (x : ConnectionState). IsSoundSession n w.cells x) (sym (new n s found))
-      (0, [], begun (roster_of w.cells) fault, fresh_ties n (roster_of w.cells) w.cells (λ t c at. just n t s c found at));
+      let (version, is) = new n s found in
+      subst (λ (x : ConnectionState). IsSoundSession n w.cells x) (sym is)
+      (0, [], begun version (roster_of w.cells) fault, fresh_ties n version (roster_of w.cells) w.cells (λ t c at. just n t s c found at));
 }
 
 -- ---- all together

@@ -11,3 +11,4 @@ pub mod Core
 pub mod Since
 pub mod Reopened
 pub mod Bytes
+pub mod Spoken

@@ -4,6 +4,7 @@ use Rattle.std.specs.List.{list_any}
 use Rattle.table_types.specs.declared.copies.CopyKind.{CopyKind}
 use Rattle.table_types.specs.declared.copies.CopyKind.TheVariants as kinds
 use Rattle.table_types.specs.declared.update.Update.{Update}
+use Rattle.table_types.specs.declared.version.Version.{Version}
 use Rattle.table_types.specs.Tables.{Definition}
 use Rattle.peers_msg.specs.Integers.{IsBytes}
 use Rattle.peers_msg.specs.declared.message.Message.{Message}
@@ -70,10 +71,10 @@ abbrev pub with_batch : List (List Update) → Result (List Update) CopyError �
 with_batch copied (Ok batch) = copied ++ batch ∷ []
 with_batch copied (Err error) = copied
 
--- whether a world makes this copy: one of 1 to 512 rows, and no standing resync
+-- whether a world makes this copy: one of 1 to 4,096 rows, and no standing resync
 abbrev pub is_made : CopyKind → ℕ → Bool
-is_made kinds.Push limit = nat_le 1 limit && nat_le limit 512
-is_made kinds.Resync limit = nat_le 1 limit && nat_le limit 512
+is_made kinds.Push limit = nat_le 1 limit && nat_le limit 4096
+is_made kinds.Resync limit = nat_le 1 limit && nat_le limit 4096
 is_made kinds.Standing limit = false
 
 abbrev pub CopiesFor : ℕ → ℕ → CopyKind → ℕ → ℕ → Option CellState → Option ConnectionState → WorldState → WorldState → Type 0
@@ -154,33 +155,33 @@ abbrev pub closed : ℕ → CellState → Option CellState
 closed session c =
     if is_none (close_refusal (is_history_full c) c.state session) then Some (without_session session c) else None
 
-abbrev pub opened : ℕ → CellState → Option CellState
-opened session c =
-    if is_none (open_refusal (is_history_full c) c.state session) then Some (with_session session c) else None
+abbrev pub opened : ℕ → Version → CellState → Option CellState
+opened session version c =
+    if is_none (open_refusal (is_history_full c) c.state session) then Some (with_session session version c) else None
 
--- the tables after the session is closed and opened in each, unless one refuses that
-abbrev pub reopened_all : ℕ → List CellState → Option (List CellState)
-reopened_all session [] = Some []
-reopened_all session (c ∷ cs) =
-    option_and_then (λ first. option_map (λ rest. first ∷ rest) (reopened_all session cs)) (option_and_then (opened session) (closed session c))
+-- the tables after the session is closed in each and opened with its version, unless one refuses that
+abbrev pub reopened_all : ℕ → Version → List CellState → Option (List CellState)
+reopened_all session version [] = Some []
+reopened_all session version (c ∷ cs) =
+    option_and_then (λ first. option_map (λ rest. first ∷ rest) (reopened_all session version cs)) (option_and_then (opened session version) (closed session c))
 
 abbrev pub IsReopened : Option (List CellState) → (List CellState → WorldState) → WorldState → WorldState → Type 0
 IsReopened None after w e = e ≡ w
 IsReopened (Some cells) after w e = e ≡ after cells
 
--- the session begins anew, with a new learner, and nothing is on its way
+-- the session begins anew, with the same version and a new learner, and nothing is on its way
 abbrev pub Breaks : ℕ → Option ConnectionState → WorldState → WorldState → Type 0
 Breaks session None w e = e ≡ w
 Breaks session (Some s) w e =
-    IsReopened (reopened_all session w.cells)
-    (λ cells. record { cells = cells; connections = with_connection session (new_connection (roster_of w.cells)) w.connections }) w e
+    IsReopened (reopened_all session s.version w.cells)
+    (λ cells. record { cells = cells; connections = with_connection session (new_connection s.version (roster_of w.cells)) w.connections }) w e
 
 -- the session is opened anew in each table, unless a batch of it is out
 abbrev pub Reopens : ℕ → Option ConnectionState → WorldState → WorldState → Type 0
 Reopens session None w e = e ≡ w
 Reopens session (Some s) w e =
     MatchBool (list_any (λ c. has_out (progress_of session c.state)) w.cells) (e ≡ w)
-    (IsReopened (reopened_all session w.cells) (λ cells. record w { cells = cells }) w e)
+    (IsReopened (reopened_all session s.version w.cells) (λ cells. record w { cells = cells }) w e)
 
 -- ---- all steps
 

@@ -4,6 +4,7 @@ use Rattle.std.specs.List.{AllByRecursion}
 use Rattle.table_cell.specs.Histories.{CellState, is_history_full, room_of}
 use Rattle.table_cell.specs.Machine.{close_refusal, open_refusal, progress_of}
 use Rattle.interleave_core.specs.SoundWorlds.{IsSoundWorld}
+use Rattle.interleave_core.specs.Spoken.{AreSpoken}
 use Rattle.interleave_core.specs.Worlds.{WorldState, without_session}
 
 -- the sessions 1 to `count` are open in the table, and 16 sessions at most
@@ -15,10 +16,11 @@ pub record HasOpen (count : ℕ) (c : CellState) : Type 0 where
 abbrev pub IsOpenWorld : WorldState → Type 0
 IsOpenWorld w = AllByRecursion (HasOpen (length w.connections)) w.cells
 
--- the session of each connection is open in each table, and the world is sound
+-- the session of each connection is open in each table with its version, and the world is sound
 pub record IsInOrder (w : WorldState) : Type 0 where
   pub opened : IsOpenWorld w
   pub sound : IsSoundWorld w
+  pub spoken : AreSpoken w
 
 -- the table doesn't refuse to open the session
 abbrev pub CanOpen : ℕ → CellState → Type 0

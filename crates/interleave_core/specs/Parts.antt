@@ -8,7 +8,7 @@ use Rattle.interleave_core.specs.Worlds.{ConnectionState, WorldState, cell_at, w
 -- the first `applied` of the updates taught are those that the learner has put
 abbrev pub connection_of : Connection → ConnectionState
 connection_of c =
-    record { known = c.known; copied = c.copied.items; taught = c.taught.items; applied = take c.applied c.taught.items; to_learner = c.to_learner; to_teacher = c.to_teacher; unread = c.unread; learner = c.learner }
+    record { version = c.version; known = c.known; copied = c.copied.items; taught = c.taught.items; applied = take c.applied c.taught.items; to_learner = c.to_learner; to_teacher = c.to_teacher; unread = c.unread; learner = c.learner }
 
 abbrev pub connections_of : List Connection → List ConnectionState
 connections_of cs = map connection_of cs

@@ -16,7 +16,7 @@ AreMade c (h ∷ hs) e = (mid : CellState) × (is_history_full c ≡ false) × M
 
 -- the event opens no session, or the table has room for one more besides: of its 16 sessions at most 14 are open
 abbrev pub LeavesRoom : CellEvent → TableState → Type 0
-LeavesRoom (events.Open session) s = length s.sessions < 15
+LeavesRoom (events.Open session version) s = length s.sessions < 15
 LeavesRoom event s = Unit {0}
 
 -- the same of events that aren't about the session, and leave room to open it again

@@ -1,6 +1,7 @@
 -- What was copied for a session since its connection was new (profile).
 use Rattle.std.specs.Prelude.{◌≡◌, ◌++◌, ℕ, List, Some}
 use Rattle.table_types.specs.declared.key.Key.{Key}
+use Rattle.table_types.specs.declared.version.Version.{Version}
 use Rattle.table_types.specs.Rows.{StoredRow}
 use Rattle.learner.specs.Rows.{row_at, rows_at}
 use Rattle.table_cell.specs.declared.events.CellEvent.{CellEvent}
@@ -12,7 +13,7 @@ use Rattle.interleave_core.specs.Worlds.{ConnectionState, WorldState, cell_at, c
 
 -- the session's connection is new, as in a new world and after a Break
 abbrev pub HasNewConnection : ℕ → WorldState → Type 0
-HasNewConnection session w = connection_at session w.connections ≡ Some (new_connection (roster_of w.cells))
+HasNewConnection session w = (version : Version) × (connection_at session w.connections ≡ Some (new_connection version (roster_of w.cells)))
 
 -- the table has the events that it had in the world `begun`, and then `later`
 abbrev pub HasSince : WorldState → ℕ → CellState → List (CellEvent × CellReply) → Type 0

@@ -2,6 +2,7 @@
 use Rattle.std.specs.Prelude.{◌≡◌, ◌⊎◌, ℕ, ◌<◌, ◌≤◌, ◌==◌, Bool, true, false, List, [], ◌∷◌, ◌++◌, drop, filter, fold, length, Some}
 use Rattle.std.specs.List.{AllByRecursion, flat_map}
 use Rattle.table_types.specs.declared.update.Update.{Update}
+use Rattle.table_types.specs.declared.version.Version.{Version}
 use Rattle.known_state.specs.Known.{is_in}
 use Rattle.table_cell.specs.declared.events.CellEvent.{CellEvent}
 use Rattle.table_cell.specs.declared.events.CellReply.{CellReply}
@@ -87,7 +88,7 @@ pub record AreTied (session before : ℕ) (s : ConnectionState) (acks : List (�
 -- the session was opened in the table, and nothing was handed out, taught or acknowledged in it since then
 abbrev pub IsJustOpened : ℕ → CellState → Type 0
 IsJustOpened session c =
-    (next : ℕ) × (progress_of session c.state ≡ Some (no_progress next)) × (handed_since session c.history ≡ [])
+    (version : Version) × (next : ℕ) × (progress_of session c.state ≡ Some (no_progress version next)) × (handed_since session c.history ≡ [])
 
 -- ---- the tables
 

@@ -1,7 +1,9 @@
 -- The world (profile): tables, the sessions that teach from them, and what is on its way between a teacher and its
 -- learners.
-use Rattle.std.specs.Prelude.{ℕ, zero, suc, Bool, not, ◌==◌, List, [], ◌∷◌, ◌++◌, filter, map, replicate, set, slice_get, Option, Some, None, if◌then◌else◌}
+use Rattle.std.specs.Prelude.{ℕ, zero, suc, Bool, not, ◌==◌, List, [], ◌∷◌, ◌++◌, filter, get_or, length, map, set, slice_get, Option, Some, None, if◌then◌else◌}
 use Rattle.table_types.specs.declared.update.Update.{Update}
+use Rattle.table_types.specs.declared.version.Version.{Version}
+use Rattle.table_types.specs.declared.version.Version.TheVariants as versions
 use Rattle.table_types.specs.Tables.{Definition}
 use Rattle.known_state.specs.Known.{KnownState, fresh_of}
 use Rattle.learner.specs.Learning.{Learning, unlearned}
@@ -12,11 +14,13 @@ use Rattle.table_cell.specs.Machine.{no_progress}
 use Rattle.interleave_core.specs.declared.way.Way.{Way}
 use Rattle.interleave_core.specs.declared.way.Way.TheVariants as ways
 
--- What belongs to a session: what its teacher knows of the learner once all that is on its way has arrived; the batches
+-- What belongs to a session: the version that it speaks; what its teacher knows of the learner once all that is on its way has
+-- arrived; the batches
 -- that were copied and not taught yet, the oldest first; the updates taught since the connection began, and those of
 -- them that the learner has put; the bytes on their way to the learner, and to the teacher; the bytes that arrived at
 -- the teacher and aren't a whole message yet; and the learner.
 pub record ConnectionState : Type 0 where
+  pub version : Version
   pub known : KnownState
   pub copied : List (List Update)
   pub taught : List Update
@@ -36,9 +40,9 @@ abbrev pub roster_of : List CellState → List Definition
 roster_of cells = map (λ c. c.state.definition) cells
 
 -- nothing was copied, taught or sent, and the learner has received nothing
-abbrev pub new_connection : List Definition → ConnectionState
-new_connection roster =
-    record { known = fresh_of roster; copied = []; taught = []; applied = []; to_learner = []; to_teacher = []; unread = []; learner = unlearned roster }
+abbrev pub new_connection : Version → List Definition → ConnectionState
+new_connection version roster =
+    record { version = version; known = fresh_of roster; copied = []; taught = []; applied = []; to_learner = []; to_teacher = []; unread = []; learner = unlearned roster }
 
 -- ---- tables by id
 
@@ -72,10 +76,10 @@ pipe_of ways.ToTeacher s = s.to_teacher
 
 -- ---- the sessions of a table
 
--- the table after the session is opened in it
-abbrev pub with_session : ℕ → CellState → CellState
-with_session session c =
-    record c { history = c.history ++ (events.Open session, replies.Open) ∷ []; state = record c.state { sessions = c.state.sessions ++ (session, no_progress c.state.next) ∷ [] } }
+-- the table after the session is opened in it, with its version
+abbrev pub with_session : ℕ → Version → CellState → CellState
+with_session session version c =
+    record c { history = c.history ++ (events.Open session version, replies.Open) ∷ []; state = record c.state { sessions = c.state.sessions ++ (session, no_progress version c.state.next) ∷ [] } }
 
 -- the table after the session is closed in it
 abbrev pub without_session : ℕ → CellState → CellState
@@ -83,17 +87,21 @@ without_session session c =
     record c { history = c.history ++ (events.Close session, replies.Close) ∷ []; state = record c.state { sessions = filter (λ entry. not (entry.0 == session)) c.state.sessions } }
 
 -- the table after the session is closed in it and opened again
-abbrev pub with_session_anew : ℕ → CellState → CellState
-with_session_anew session c = with_session session (without_session session c)
+abbrev pub with_session_anew : ℕ → Version → CellState → CellState
+with_session_anew session version c = with_session session version (without_session session c)
 
--- the table after the sessions 1 to `count` are opened in it
-abbrev pub with_sessions : ℕ → CellState → CellState
-with_sessions zero c = c
-with_sessions (suc before) c = with_session (suc before) (with_sessions before c)
+-- the version of the session after the first `before`, if these are the versions of the sessions 1, 2 and so on
+abbrev pub version_after : ℕ → List Version → Version
+version_after before spoken = get_or spoken before versions.V21
+
+-- the table after the sessions 1 to `count` are opened in it, each with its version
+abbrev pub with_sessions : ℕ → List Version → CellState → CellState
+with_sessions zero spoken c = c
+with_sessions (suc before) spoken c = with_session (suc before) (version_after before spoken) (with_sessions before spoken c)
 
 -- ---- a new world
 
--- the sessions 1 to `count` are open in each table, nothing is on its way, and no learner has received anything
-abbrev pub new_world : List CellState → ℕ → WorldState
-new_world cells count =
-    record { cells = map (with_sessions count) cells; connections = replicate count (new_connection (roster_of cells)) }
+-- there is a session for each version, which is open in each table; nothing is on its way, and no learner has received anything
+abbrev pub new_world : List CellState → List Version → WorldState
+new_world cells spoken =
+    record { cells = map (with_sessions (length spoken) spoken) cells; connections = map (λ version. new_connection version (roster_of cells)) spoken }

@@ -16,7 +16,7 @@ ghost use Rattle.interleave_core.specs.Worlds.{cell_at, roster_of, with_session,
 
 use std::alloc::Global;
 use table_cell::{CloseError, CopyError, LearnError, OpenError, PurgeError, TableCell, TrackError};
-use table_types::{Batch, Change, CopyKind, Key, Memory, Moment, Roster, Update};
+use table_types::{Batch, Change, CopyKind, Key, Memory, Moment, Roster, Update, Version};
 
 /// Returns the index of `table`.
 pub(crate) fn index_of(cells: &[TableCell], table: u64) -> Option<usize>
@@ -108,7 +108,7 @@ pub(crate) fn copy(
     limit: usize,
     now: Moment,
 ) -> Result<Option<Batch>, Memory>
-    requires { (1 ≤ limit) × (limit ≤ 512) }
+    requires { (1 ≤ limit) × (limit ≤ 4096) }
     ensures copied { IfOk result (λ found. IfSome found (λ batch. Copies cell.old session kind limit now (Ok batch) cell.new)) }
     ensures refused { IfOk result (λ found. IfNone found ((error : CopyError) × (error ≢ uncopied.Memory) × Copies cell.old session kind limit now (Err error) cell.new)) }
 {
@@ -152,11 +152,11 @@ pub(crate) fn are_sound(cells: &[TableCell])
     }
 }
 
-/// Opens `session` in a table, unless the table refuses it.
-fn open(cell: &mut TableCell, session: u32) -> Result<(), Memory>
-    ensures { OnOk result (CanOpen session cell.old → cell.new ≡ with_session session cell.old) }
+/// Opens `session` with this version in a table, unless the table refuses it.
+fn open(cell: &mut TableCell, session: u32, version: Version) -> Result<(), Memory>
+    ensures { OnOk result (CanOpen session cell.old → cell.new ≡ with_session session version cell.old) }
 {
-    match cell.open_session(session) {
+    match cell.open_session(session, version) {
         Err(OpenError::Memory) => Err(Memory),
         _ => Ok(()),
     }
@@ -173,29 +173,37 @@ fn close(cell: &mut TableCell, session: u32) -> Result<(), Memory>
 }
 
 /// Closes `session` in a table and opens it again, unless the table refuses it.
-fn reopen(cell: &mut TableCell, session: u32) -> Result<(), Memory>
-    ensures { OnOk result (CanReopen session cell.old → cell.new ≡ with_session_anew session cell.old) }
+fn reopen(cell: &mut TableCell, session: u32, version: Version) -> Result<(), Memory>
+    ensures { OnOk result (CanReopen session cell.old → cell.new ≡ with_session_anew session version cell.old) }
 {
     close(cell, session)?;
-    open(cell, session)
+    open(cell, session, version)
 }
 
-/// Opens `session` in each table that doesn't refuse it.
-pub(crate) fn open_in_each(cells: &mut [TableCell], session: u32) -> Result<(), Memory>
-    ensures { OnOk result (AllByRecursion (CanOpen session) cells.old → cells.new ≡ map (with_session session) cells.old) }
+/// Opens `session` with this version in each table that doesn't refuse it.
+pub(crate) fn open_in_each(
+    cells: &mut [TableCell],
+    session: u32,
+    version: Version,
+) -> Result<(), Memory>
+    ensures { OnOk result (AllByRecursion (CanOpen session) cells.old → cells.new ≡ map (with_session session version) cells.old) }
 {
     for cell in cells.iter_mut() {
-        open(cell, session)?;
+        open(cell, session, version)?;
     }
     Ok(())
 }
 
 /// Closes `session` and opens it again, in each table that doesn't refuse it.
-pub(crate) fn reopen_in_each(cells: &mut [TableCell], session: u32) -> Result<(), Memory>
-    ensures { OnOk result (AllByRecursion (CanReopen session) cells.old → cells.new ≡ map (with_session_anew session) cells.old) }
+pub(crate) fn reopen_in_each(
+    cells: &mut [TableCell],
+    session: u32,
+    version: Version,
+) -> Result<(), Memory>
+    ensures { OnOk result (AllByRecursion (CanReopen session) cells.old → cells.new ≡ map (with_session_anew session version) cells.old) }
 {
     for cell in cells.iter_mut() {
-        reopen(cell, session)?;
+        reopen(cell, session, version)?;
     }
     Ok(())
 }

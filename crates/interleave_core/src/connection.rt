@@ -16,13 +16,15 @@ use known_state::Known;
 use learner::Learner;
 use peers_msg::{Message, Unread, append};
 use std::alloc::Global;
-use table_types::{Batch, Memory, Moment, Roster, Update};
+use table_types::{Batch, Memory, Moment, Roster, Update, Version};
 use teach_writer::{Lesson, teach};
 
-/// A session's connection: what its teacher knows and has still to do, what is on its way, and its learner. All but the
-/// batches counts from when the connection began.
+/// A session's connection: its version, what its teacher knows and has still to do, what is on its way, and its learner. All
+/// but the version and the batches counts from when the connection began.
 #[derive(Drop)]
 pub(crate) struct Connection {
+    /// The version of the protocol that the session speaks.
+    pub(crate) version: Version,
     /// What the teacher knows of the learner, once it has received all that is on its way.
     pub(crate) known: Known,
     /// The batches that were copied and not taught yet, the oldest first.
@@ -98,10 +100,11 @@ fn send(pipe: &mut Unread, bytes: &[u8]) -> Result<(), Memory>
 
 impl Connection {
     /// Returns a new connection: the learner has received nothing, and nothing is on its way.
-    pub(crate) fn new(alloc: Global, roster: Roster) -> Result<Connection, Memory>
-        ensures { IfOk result (λ connection. connection_of connection ≡ new_connection roster) }
+    pub(crate) fn new(alloc: Global, roster: Roster, version: Version) -> Result<Connection, Memory>
+        ensures { IfOk result (λ connection. connection_of connection ≡ new_connection version roster) }
     {
         Ok(Connection {
+            version,
             known: Known::fresh(alloc, roster.copy(alloc)?),
             copied: Vec::new(alloc),
             taught: Vec::new(alloc),

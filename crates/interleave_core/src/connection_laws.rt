@@ -9,6 +9,7 @@ ghost use Rattle.peers_msg.specs.Reading.{message_at};
 ghost use Rattle.peers_msg.specs.Received.{Received, nothing_received};
 ghost use Rattle.table_types.specs.declared.key.Key.{Key};
 ghost use Rattle.table_types.specs.declared.update.Update.{Update};
+ghost use Rattle.table_types.specs.declared.version.Version.{Version};
 ghost use Rattle.table_types.specs.Batches.{IsBatchFor};
 ghost use Rattle.table_types.specs.Rosters.{roster_fault, table_at};
 ghost use Rattle.table_types.specs.Rows.{StoredRow, row_of};
@@ -29,7 +30,7 @@ ghost use Rattle.interleave_core.specs.Worlds.{ConnectionState, new_connection};
 /// of it at a moment below 2^63. What the learner acknowledges joins the acknowledgements on their way; what arrives at the
 /// teacher takes the first of them off, in order.
 pub fn a_connection_stays_sound()
-    ensures begun { (roster : List Definition) → roster_fault roster ≡ None → IsSoundConnection roster (new_connection roster) [] }
+    ensures begun { (version : Version) (roster : List Definition) → roster_fault roster ≡ None → IsSoundConnection roster (new_connection version roster) [] }
     ensures copied { (roster : List Definition) (s : ConnectionState) (acks : List (ℕ × ℕ)) (batch : List Update) →
         IsSoundConnection roster s acks → IsBatchFor roster batch → IsSoundConnection roster (record s { copied = s.copied ++ batch ∷ [] }) acks }
     ensures taught { (roster : List Definition) (s : ConnectionState) (acks : List (ℕ × ℕ)) (batch : List Update) (rest : List (List Update)) (bytes : List ℕ) (after : KnownState) →

@@ -4,6 +4,7 @@ ghost use Rattle.std.specs.Prelude.{◌≡◌, ◌≢◌, ◌≤◌, ◌∷◌, 
 ghost use Rattle.std.specs.List.{AllByRecursion};
 ghost use Rattle.peers_msg.specs.Integers.{IsBytes};
 ghost use Rattle.table_types.specs.declared.update.Update.{Update};
+ghost use Rattle.table_types.specs.declared.version.Version.{Version};
 ghost use Rattle.table_types.specs.Batches.{IsBatchFor};
 ghost use Rattle.table_types.specs.Rosters.{roster_fault};
 ghost use Rattle.table_types.specs.Tables.{Definition};
@@ -26,7 +27,7 @@ ghost use Rattle.interleave_core.specs.Worlds.{ConnectionState, WorldState, new_
 /// the pipe, which raises no fault unless memory runs out, and when its acknowledgements go into the other pipe. So a learner
 /// that is fed all that is on its way has put all that was taught, is in the known state, and has nothing unread.
 pub fn a_connection_stays_on_track()
-    ensures begun { (roster : List Definition) → roster_fault roster ≡ None → IsOnTrack roster (new_connection roster) }
+    ensures begun { (version : Version) (roster : List Definition) → roster_fault roster ≡ None → IsOnTrack roster (new_connection version roster) }
     ensures copied { (roster : List Definition) (s : ConnectionState) (batch : List Update) → IsOnTrack roster s → IsBatchFor roster batch →
         IsOnTrack roster (record s { copied = s.copied ++ batch ∷ [] }) }
     ensures taught { (roster : List Definition) (s : ConnectionState) (batch : List Update) (rest : List (List Update)) (bytes : List ℕ) (after : KnownState) →
@@ -46,7 +47,7 @@ pub fn a_connection_stays_on_track()
 /// In a new world the session of each connection is open in each table. So it is after each step and after each run, since a
 /// session that is closed is opened again.
 pub fn sessions_stay_open()
-    ensures new { (cells : List CellState) (count : ℕ) → count ≤ 16 → AllByRecursion (CanBegin count) cells → IsOpenWorld (new_world cells count) }
+    ensures new { (cells : List CellState) (versions : List Version) → length versions ≤ 16 → AllByRecursion (CanBegin (length versions)) cells → IsOpenWorld (new_world cells versions) }
     ensures step { (w e : WorldState) (step : Step) → IsOpenWorld w → Moves w step e → IsOpenWorld e }
     ensures run { (w e : WorldState) (steps : List Step) → IsOpenWorld w → RunsTo w steps e → IsOpenWorld e }
 {}

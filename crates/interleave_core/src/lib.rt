@@ -15,6 +15,7 @@ mod since_laws;
 mod step;
 mod tie_laws;
 mod track_laws;
+mod version_laws;
 mod way;
 mod world;
 mod world_laws;
@@ -34,6 +35,7 @@ pub use tie_laws::{
     numbers_stay_tied, tables_stay_sound, what_a_tie_tells, what_is_acknowledged_was_put,
 };
 pub use track_laws::{a_sound_world_is_on_track, a_world_stays_on_track};
+pub use version_laws::sessions_keep_to_their_versions;
 pub use way::Way;
 pub use world::{World, run};
 pub use world_laws::{a_sound_world_tells, a_world_stays_sound};

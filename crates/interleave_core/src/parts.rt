@@ -30,10 +30,10 @@ pub(crate) struct Parts {
     pub(crate) connections: Vec<Connection>,
 }
 
-/// Returns whether a world makes this copy: one of 1 to 512 rows, and no standing resync.
+/// Returns whether a world makes this copy: one of 1 to 4,096 rows, and no standing resync.
 fn is_made(kind: CopyKind, limit: usize) -> bool
     ensures exactly { result ≡ is_made kind limit }
-    ensures limits { OnTrue result ((1 ≤ limit) × (limit ≤ 512)) }
+    ensures limits { OnTrue result ((1 ≤ limit) × (limit ≤ 4096)) }
 {
     match kind {
         CopyKind::Push | CopyKind::Resync => 1 <= limit && limit <= Batch::MOST,
@@ -197,14 +197,15 @@ impl Parts {
             return Ok(());
         }
         let roster = roster_of(self.alloc, self.cells.as_slice())?;
-        self.connections[place] = Connection::new(self.alloc, roster)?;
-        reopen_in_each(self.cells.as_mut_slice(), session)
+        let version = self.connections[place].version;
+        self.connections[place] = Connection::new(self.alloc, roster, version)?;
+        reopen_in_each(self.cells.as_mut_slice(), session, version)
     }
 
     fn reopen(&mut self, session: u32) -> Result<(), Memory>
         ensures { OnOk result (IsOpenWorld (world_of self.old) → Moves (world_of self.old) (steps.Reopen session) (world_of self.new)) }
     {
-        let Some(_place) = connection_index(self.connections.as_slice(), session) else {
+        let Some(place) = connection_index(self.connections.as_slice(), session) else {
             return Ok(());
         };
         if is_any_out(self.cells.as_slice(), session) {
@@ -213,6 +214,7 @@ impl Parts {
         if !has_room_for(self.cells.as_slice(), 2) {
             return Ok(());
         }
-        reopen_in_each(self.cells.as_mut_slice(), session)
+        let version = self.connections[place].version;
+        reopen_in_each(self.cells.as_mut_slice(), session, version)
     }
 }

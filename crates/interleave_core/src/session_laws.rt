@@ -6,6 +6,7 @@ ghost use Rattle.table_types.specs.declared.copies.CopyKind.{CopyKind};
 ghost use Rattle.table_types.specs.declared.copies.CopyKind.TheVariants as kinds;
 ghost use Rattle.table_types.specs.declared.copies.Settled.{Settled};
 ghost use Rattle.table_types.specs.declared.update.Update.{Update};
+ghost use Rattle.table_types.specs.declared.version.Version.{Version};
 ghost use Rattle.known_state.specs.Known.{KnownState};
 ghost use Rattle.teach_writer.specs.Lessons.{IsShortestLesson};
 ghost use Rattle.table_cell.specs.declared.errors.CopyError.{CopyError};
@@ -31,7 +32,7 @@ pub fn what_a_session_does_are_steps()
         cell_at u.table w.cells ≡ Some c → connection_at session w.connections ≡ Some s → answer ≢ Err unlearned.Memory → Learns c session u now answer e →
         Moves w (steps.Learn session u now) (record w { cells = with_cell u.table e w.cells }) }
     ensures copies { (w : WorldState) (c e : CellState) (s : ConnectionState) (session table limit now : ℕ) (kind : CopyKind) (answer : Result (List Update) CopyError) →
-        cell_at table w.cells ≡ Some c → connection_at session w.connections ≡ Some s → kind ≢ kinds.Standing → 1 ≤ limit → limit ≤ 512 →
+        cell_at table w.cells ≡ Some c → connection_at session w.connections ≡ Some s → kind ≢ kinds.Standing → 1 ≤ limit → limit ≤ 4096 →
         answer ≢ Err uncopied.Memory → Copies c session kind limit now answer e →
         Moves w (steps.Copy session table kind limit now)
         (record { cells = with_cell table e w.cells; connections = with_connection session (record s { copied = with_batch s.copied answer }) w.connections }) }
@@ -40,8 +41,8 @@ pub fn what_a_session_does_are_steps()
         IsShortestLesson s.known batch bytes after → Moves w (steps.Teach session)
         (record w { connections = with_connection session (record s { known = after; copied = rest; taught = s.taught ++ batch; to_learner = s.to_learner ++ bytes }) w.connections }) }
     ensures acknowledges { (c e : CellState) (session number : ℕ) (settled : Settled) → Acknowledges c session number (Ok settled) e → acked session number c ≡ Some e }
-    ensures reopens { (c mid e : CellState) (session : ℕ) → Closes c session (Ok tt) mid → Opens mid session (Ok tt) e →
-        option_and_then (opened session) (closed session c) ≡ Some e }
+    ensures reopens { (c mid e : CellState) (session : ℕ) (version : Version) → Closes c session (Ok tt) mid → Opens mid session version (Ok tt) e →
+        option_and_then (opened session version) (closed session c) ≡ Some e }
 {}
 
 /// A session that runs closes and opens a table in two calls, and others may use the table in between. The first call does to the
@@ -50,8 +51,8 @@ pub fn what_a_session_does_are_steps()
 /// same replies: the session is then closed and opened at once, as a Reopen or a Break does, and the table ends alike.
 pub fn a_session_may_be_opened_later()
     ensures closes { (c e : CellState) (session : ℕ) → Closes c session (Ok tt) e → (closed session c ≡ Some e) × (progress_of session e.state ≡ None) }
-    ensures opens { (c e : CellState) (session : ℕ) → Opens c session (Ok tt) e → opened session c ≡ Some e }
-    ensures between { (c mid far e : CellState) (session : ℕ) (others : List (CellEvent × CellReply)) → IsSoundCell c →
-        Closes c session (Ok tt) mid → AreOthers session mid others far → Opens far session (Ok tt) e →
-        (before : CellState) × (after : CellState) × AreMade c others before × (option_and_then (opened session) (closed session before) ≡ Some after) × AreAlike session after e }
+    ensures opens { (c e : CellState) (session : ℕ) (version : Version) → Opens c session version (Ok tt) e → opened session version c ≡ Some e }
+    ensures between { (c mid far e : CellState) (session : ℕ) (version : Version) (others : List (CellEvent × CellReply)) → IsSoundCell c →
+        Closes c session (Ok tt) mid → AreOthers session mid others far → Opens far session version (Ok tt) e →
+        (before : CellState) × (after : CellState) × AreMade c others before × (option_and_then (opened session version) (closed session before) ≡ Some after) × AreAlike session after e }
 {}

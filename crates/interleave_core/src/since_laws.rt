@@ -2,6 +2,7 @@
 
 ghost use Rattle.std.specs.Prelude.{◌≡◌, ◌⊎◌, ℕ, List, Some};
 ghost use Rattle.std.specs.List.{AllByRecursion};
+ghost use Rattle.table_types.specs.declared.version.Version.{Version};
 ghost use Rattle.table_cell.specs.Histories.{CellState};
 ghost use Rattle.interleave_core.specs.declared.step.Step.{Step};
 ghost use Rattle.interleave_core.specs.declared.step.Step.TheVariants as steps;
@@ -14,8 +15,8 @@ ghost use Rattle.interleave_core.specs.Worlds.{ConnectionState, WorldState, conn
 /// made, each row at its learner is what an update taught that a copy for the session had, and that copy is one of the events
 /// that the table has had since the connection was new.
 pub fn what_is_put_was_copied_since()
-    ensures new { (cells : List CellState) (count session : ℕ) (s : ConnectionState) → connection_at session (new_world cells count).connections ≡ Some s →
-        HasNewConnection session (new_world cells count) }
+    ensures new { (cells : List CellState) (versions : List Version) (session : ℕ) (s : ConnectionState) → connection_at session (new_world cells versions).connections ≡ Some s →
+        HasNewConnection session (new_world cells versions) }
     ensures broken { (w e : WorldState) (session : ℕ) → IsSoundWorld w → Moves w (steps.Break session) e → (e ≡ w) ⊎ HasNewConnection session e }
     ensures since { (begun w : WorldState) (session : ℕ) (made : List Step) → AllByRecursion IsTimelyStep made → IsSoundWorld begun → HasNewConnection session begun →
         RunsTo begun made w → RowsAreCopiedSince begun session w }

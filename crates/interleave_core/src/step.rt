@@ -35,7 +35,7 @@ pub enum Step {
         table: u64,
         /// Which rows are copied: those of a push or a resync.
         kind: CopyKind,
-        /// The most rows that are copied, 1 to 512.
+        /// The most rows that are copied, 1 to 4,096.
         limit: usize,
         /// When they are copied.
         moment: Moment,
@@ -61,7 +61,8 @@ pub enum Step {
         /// The session.
         session: u32,
     },
-    /// The connection breaks, and a new one begins with a new learner: the teacher closes and opens the session in each table.
+    /// The connection breaks, and a new one begins with a new learner: the teacher closes and opens the session in each table, with
+    /// the same version.
     Break {
         /// The session.
         session: u32,

@@ -4,6 +4,7 @@ ghost use Rattle.std.specs.Prelude.{◌≡◌, ◌≢◌, ◌⊎◌, ◌≤◌, 
 ghost use Rattle.std.specs.List.{AllByRecursion, list_any};
 ghost use Rattle.table_types.specs.declared.copies.CopyKind.{CopyKind};
 ghost use Rattle.table_types.specs.declared.update.Update.{Update};
+ghost use Rattle.table_types.specs.declared.version.Version.{Version};
 ghost use Rattle.table_types.specs.Rosters.{has_id};
 ghost use Rattle.table_types.specs.Tables.{Definition};
 ghost use Rattle.known_state.specs.Known.{is_in};
@@ -57,8 +58,8 @@ pub fn a_session_stays_tied_to_a_table()
     ensures acknowledged { (session number : ℕ) (rest : List ℕ) (share : Share) (c e : CellState) (reply : CellReply) (p : Progress) →
         share.acks ≡ number ∷ rest → Made c (events.Ack session number) reply e → IsTiedTo session share c p →
         IsTiedTo session (record share { acks = rest }) e (record p { acknowledged = number }) }
-    ensures opened { (session : ℕ) (all : List Update) (c e : CellState) (reply : CellReply) →
-        Made c (events.Open session) reply e → AllByRecursion (WasCopied session c.history) all → IsTiedTo session (opened_share all) e (no_progress c.state.next) }
+    ensures opened { (session : ℕ) (version : Version) (all : List Update) (c e : CellState) (reply : CellReply) →
+        Made c (events.Open session version) reply e → AllByRecursion (WasCopied session c.history) all → IsTiedTo session (opened_share all) e (no_progress version c.state.next) }
 {}
 
 /// A session stays tied to all tables at each step. An event that isn't about the session leaves all ties as they are. A copy
@@ -92,17 +93,17 @@ pub fn a_session_stays_tied()
 /// batch of it is out, it can be opened anew with the same connection: all that was taught has been put, and the session is
 /// tied. Other sessions stay tied.
 pub fn a_new_session_is_tied()
-    ensures opened { (session : ℕ) (roster : List Definition) (cells : List CellState) →
+    ensures opened { (session : ℕ) (version : Version) (roster : List Definition) (cells : List CellState) →
         ((table : ℕ) (c : CellState) → cell_at table cells ≡ Some c → IsJustOpened session c) →
-        AreTied session 0 (new_connection roster) [] cells }
-    ensures begun { (session : ℕ) (roster : List Definition) (cells after : List CellState) →
-        reopened_all session cells ≡ Some after → AreTied session 0 (new_connection roster) [] after }
-    ensures reopened { (session before : ℕ) (s : ConnectionState) (acks : List (ℕ × ℕ)) (to_come : List Update) (cells after : List CellState) →
+        AreTied session 0 (new_connection version roster) [] cells }
+    ensures begun { (session : ℕ) (version : Version) (roster : List Definition) (cells after : List CellState) →
+        reopened_all session version cells ≡ Some after → AreTied session 0 (new_connection version roster) [] after }
+    ensures reopened { (session : ℕ) (version : Version) (before : ℕ) (s : ConnectionState) (acks : List (ℕ × ℕ)) (to_come : List Update) (cells after : List CellState) →
         s.taught ≡ s.applied ++ to_come → AllByRecursion (λ u. has_id u.table (roster_of cells) ≡ true) to_come →
-        list_any (λ c. has_out (progress_of session c.state)) cells ≡ false → reopened_all session cells ≡ Some after →
+        list_any (λ c. has_out (progress_of session c.state)) cells ≡ false → reopened_all session version cells ≡ Some after →
         AreTied session before s acks cells → (to_come ≡ []) × AreTied session (length s.taught) s acks after }
-    ensures other { (session other before : ℕ) (s : ConnectionState) (acks : List (ℕ × ℕ)) (cells after : List CellState) →
-        other ≢ session → reopened_all session cells ≡ Some after → AreTied other before s acks cells → AreTied other before s acks after }
+    ensures other { (session : ℕ) (version : Version) (other before : ℕ) (s : ConnectionState) (acks : List (ℕ × ℕ)) (cells after : List CellState) →
+        other ≢ session → reopened_all session version cells ≡ Some after → AreTied other before s acks cells → AreTied other before s acks after }
 {}
 
 /// The tables stay sound, keep up with every session and keep their definitions: when an event is made in one of them, when
@@ -113,8 +114,8 @@ pub fn tables_stay_sound()
         AreSoundTables (with_cell table e cells) × (roster_of (with_cell table e cells) ≡ roster_of cells) }
     ensures acknowledged { (session : ℕ) (acks : List (ℕ × ℕ)) (cells after : List CellState) →
         acked_all session acks cells ≡ Some after → AreSoundTables cells → AreSoundTables after × (roster_of after ≡ roster_of cells) }
-    ensures reopened { (session : ℕ) (cells after : List CellState) →
-        reopened_all session cells ≡ Some after → AreSoundTables cells → AreSoundTables after × (roster_of after ≡ roster_of cells) }
+    ensures reopened { (session : ℕ) (version : Version) (cells after : List CellState) →
+        reopened_all session version cells ≡ Some after → AreSoundTables cells → AreSoundTables after × (roster_of after ≡ roster_of cells) }
 {}
 
 /// Of a session that is tied to all tables: the number acknowledged in a table is 0 or that of an update that the learner has

@@ -1,7 +1,8 @@
 //! Laws of sound worlds and of connections on track, whatever the program does.
 
-ghost use Rattle.std.specs.Prelude.{◌≡◌, ℕ, false, List, None, Some, replicate};
+ghost use Rattle.std.specs.Prelude.{◌≡◌, ℕ, false, List, None, Some, map};
 ghost use Rattle.std.specs.List.{AllByRecursion};
+ghost use Rattle.table_types.specs.declared.version.Version.{Version};
 ghost use Rattle.table_types.specs.Rosters.{roster_fault};
 ghost use Rattle.peers_msg.specs.Integers.{IsBytes};
 ghost use Rattle.table_cell.specs.declared.progress.Progress.{Progress};
@@ -23,8 +24,8 @@ pub fn a_sound_world_is_on_track()
 /// A world of new connections is on track if its tables are a roster. A world on track stays so at each step that isn't a copy,
 /// whether its tables are sound or not. What is on its way to its learners is bytes.
 pub fn a_world_stays_on_track()
-    ensures begun { (cells : List CellState) (sessions : ℕ) → roster_fault (roster_of cells) ≡ None →
-        AreOnTrack (record { cells = cells; connections = replicate sessions (new_connection (roster_of cells)) }) }
+    ensures begun { (cells : List CellState) (versions : List Version) → roster_fault (roster_of cells) ≡ None →
+        AreOnTrack (record { cells = cells; connections = map (λ version. new_connection version (roster_of cells)) versions }) }
     ensures not_a_copy { (w e : WorldState) (step : Step) → is_copy step ≡ false → AreOnTrack w → Moves w step e → AreOnTrack e }
     ensures bytes { (w : WorldState) → AreOnTrack w → AllByRecursion (λ s. IsBytes s.to_learner) w.connections }
 {}

@@ -1,6 +1,6 @@
 //! The world, and its runs.
 
-ghost use Rattle.std.specs.Prelude.{◌≡◌, ◌≤◌, ◌++◌, ℕ, IfOk, List, None, option_map};
+ghost use Rattle.std.specs.Prelude.{◌≡◌, ◌≤◌, ◌++◌, ℕ, IfOk, List, None, length, option_map};
 ghost use Rattle.std.specs.List.{AllByRecursion};
 ghost use Rattle.table_types.specs.Rosters.{roster_fault};
 ghost use Rattle.interleave_core.specs.declared.step.Step.{Step};
@@ -8,6 +8,7 @@ ghost use Rattle.interleave_core.specs.Core.{IsCore};
 ghost use Rattle.interleave_core.specs.Moves.{RunsTo};
 ghost use Rattle.interleave_core.specs.Opened.{CanBegin};
 ghost use Rattle.interleave_core.specs.Parts.{connection_of};
+ghost use Rattle.interleave_core.specs.Spoken.{AreSpoken};
 ghost use Rattle.interleave_core.specs.Since.{HasNewConnection, RowsAreCopiedSince};
 ghost use Rattle.interleave_core.specs.Worlds.{WorldState, cell_at, connection_at, new_world, pipe_of, roster_of};
 
@@ -21,7 +22,7 @@ use learner::Learner;
 use std::alloc::Global;
 use std::marker::Model;
 use table_cell::TableCell;
-use table_types::{Batch, Memory, Update};
+use table_types::{Batch, Memory, Update, Version};
 
 /// Tables, the sessions that teach from them, and the learner of each session. Each session is open in each table.
 #[derive(Drop)]
@@ -42,21 +43,27 @@ impl Model for World {
 }
 
 impl World {
-    /// Returns a world of the tables `cells`, in which the sessions 1 to `sessions` are open in each table, nothing is on its
-    /// way, and each learner has received nothing. There are 1 to 64 tables with distinct ids and names, in which no session
-    /// is open and all can be opened, and 1 to 16 sessions.
-    pub fn new(alloc: Global, mut cells: Vec<TableCell>, sessions: u32) -> Result<World, Memory>
+    /// Returns a world of the tables `cells` with a session for each of `versions`, numbered from 1, which is open in each
+    /// table with its version. Nothing is on its way, and each learner has received nothing. There are 1 to 64 tables with
+    /// distinct ids and names, in which no session is open and all can be opened, and 1 to 16 sessions.
+    pub fn new(
+        alloc: Global,
+        mut cells: Vec<TableCell>,
+        versions: Vec<Version>,
+    ) -> Result<World, Memory>
         requires tables { roster_fault (roster_of cells.items) ≡ None }
-        requires begin { AllByRecursion (CanBegin sessions) cells.items }
-        requires sessions { (1 ≤ sessions) × (sessions ≤ 16) }
-        ensures { IfOk result (λ world. world ≡ new_world cells.items sessions) }
+        requires begin { AllByRecursion (CanBegin (length versions.items)) cells.items }
+        requires sessions { (1 ≤ length versions.items) × (length versions.items ≤ 16) }
+        ensures { IfOk result (λ world. world ≡ new_world cells.items versions.items) }
     {
         are_sound(cells.as_slice());
         let roster = roster_of(alloc, cells.as_slice())?;
         let mut connections = Vec::new(alloc);
-        for before in 0..sessions {
-            open_in_each(cells.as_mut_slice(), before + 1)?;
-            connections.push(Connection::new(alloc, roster.copy(alloc)?)?)?;
+        let mut session = 0;
+        for version in versions.as_slice() {
+            session += 1;
+            open_in_each(cells.as_mut_slice(), session, *version)?;
+            connections.push(Connection::new(alloc, roster.copy(alloc)?, *version)?)?;
         }
         let parts = Parts {
             alloc,
@@ -135,6 +142,7 @@ impl World {
 pub fn run(world: World, steps: &[Step]) -> Result<World, Memory>
     ensures runs { IfOk result (λ after. RunsTo world steps.now after) }
     ensures core { IfOk result IsCore }
+    ensures spoken { IfOk result AreSpoken }
     ensures between { (first rest : List Step) → steps.now ≡ first ++ rest →
         IfOk result (λ after. (mid : WorldState) × RunsTo world first mid × RunsTo mid rest after × IsCore mid) }
     ensures each { (first rest : List Step) (mid : WorldState) → steps.now ≡ first ++ rest → RunsTo world first mid → IfOk result (λ _. IsCore mid) }

@@ -2,6 +2,7 @@
 
 ghost use Rattle.std.specs.Prelude.{◌≡◌, ◌++◌, [], ℕ, List, None, Some};
 ghost use Rattle.std.specs.List.{AllByRecursion};
+ghost use Rattle.table_types.specs.declared.version.Version.{Version};
 ghost use Rattle.table_types.specs.Rosters.{roster_fault};
 ghost use Rattle.table_cell.specs.declared.events.CellEvent.TheVariants as events;
 ghost use Rattle.table_cell.specs.declared.events.CellReply.{CellReply};
@@ -21,7 +22,7 @@ ghost use Rattle.interleave_core.specs.Worlds.{ConnectionState, WorldState, cell
 /// taught or handed out.
 pub fn a_world_stays_sound()
     ensures new { (w : WorldState) → roster_fault (roster_of w.cells) ≡ None → AreSoundTables w.cells →
-        ((session : ℕ) (s : ConnectionState) → connection_at session w.connections ≡ Some s → s ≡ new_connection (roster_of w.cells)) →
+        ((session : ℕ) (s : ConnectionState) → connection_at session w.connections ≡ Some s → (version : Version) × (s ≡ new_connection version (roster_of w.cells))) →
         ((session table : ℕ) (s : ConnectionState) (c : CellState) → connection_at session w.connections ≡ Some s → cell_at table w.cells ≡ Some c →
         IsJustOpened session c) →
         IsSoundWorld w }
@@ -29,8 +30,8 @@ pub fn a_world_stays_sound()
     ensures run { (w e : WorldState) (steps : List Step) → AllByRecursion IsTimelyStep steps → IsSoundWorld w → RunsTo w steps e → IsSoundWorld e }
     ensures between { (w e : WorldState) (before after : List Step) → AllByRecursion IsTimelyStep before → IsSoundWorld w → RunsTo w (before ++ after) e →
         (mid : WorldState) × RunsTo w before mid × RunsTo mid after e × IsSoundWorld mid }
-    ensures opened { (session : ℕ) (c e : CellState) (reply : CellReply) → Made c (events.Open session) reply e →
-        (progress_of session e.state ≡ Some (no_progress c.state.next)) × (handed_since session e.history ≡ []) }
+    ensures opened { (session : ℕ) (version : Version) (c e : CellState) (reply : CellReply) → Made c (events.Open session version) reply e →
+        (progress_of session e.state ≡ Some (no_progress version c.state.next)) × (handed_since session e.history ≡ []) }
 {}
 
 /// A sound world keeps what is promised of its sessions: a learner that is fed all that is on its way ends as its teacher knows

@@ -17,4 +17,4 @@ pub returns-clause-between : goal.returns-clause-between
 returns-clause-between c = between_sound
 
 pub returns-clause-opened : goal.returns-clause-opened
-returns-clause-opened x session c e reply made = let tie = open_tied session [] c e reply made tt in (tie.progress, sym tie.same)
+returns-clause-opened x session version c e reply made = let tie = open_tied session version [] c e reply made tt in (tie.progress, sym tie.same)

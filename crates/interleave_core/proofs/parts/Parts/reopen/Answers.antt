@@ -1,10 +1,11 @@
-use Rattle.std.proofs.Common.{◌≡◌, ◌∙◌, ap, false, map, nat_le, subst, sym, true}
+use Rattle.std.proofs.Common.{◌≡◌, ◌∙◌, ap, false, get_or, map, nat_le, subst, sym, true}
 use Rattle.std.specs.List.{AllByRecursion, list_all, list_any}
 use Rattle.std.proofs.lemmas.Result.{on_ok_weaker}
+use Rattle.interleave_core.specs.declared.connection.Connection.{Connection}
 use Rattle.table_cell.specs.Histories.{room_of}
 use Rattle.table_cell.specs.Machine.{has_out, progress_of}
 use Rattle.interleave_core.specs.Moves.{Reopens}
-use Rattle.interleave_core.specs.Parts.{IsConnectionAt, connections_of, world_of}
+use Rattle.interleave_core.specs.Parts.{IsConnectionAt, connection_of, connections_of, world_of}
 use Rattle.interleave_core.specs.Opened.{CanReopen}
 use Rattle.interleave_core.specs.Worlds.{connection_at, with_session_anew}
 use Rattle.interleave_core.proofs.Reopening.{can_reopen_each, refilled, reopens, reopens_nothing, reopens_nothing_out}
@@ -28,7 +29,7 @@ pub returns : goal.returns
 returns c =
     let old = c.args.self.now in
     let session = c.args.session in
-    let place = c.in-Some._place in
+    let place = c.in-Some.place in
     let after = c.reopen_in_each.new.cells in
     let here : IsConnectionAt session old.connections.items place =
     subst (λ xs. IsConnectionAt session xs place) c.as_slice.ensures.value c.in-Some.ensures.found in
@@ -39,10 +40,13 @@ returns c =
     on_ok_weaker c.reopen_in_each.result
     (λ so all.
     let can = can_reopen_each old.cells.items old.connections.items session place all here room in
-    let made : after ≡ map (with_session_anew session) old.cells.items =
-    subst (λ xs. AllByRecursion (CanReopen session) xs → after ≡ map (with_session_anew session) xs) c.as_mut_slice.ensures.value so can in
+    let now = c.index.result.now in
+    let version = now.version in
+    let same : (connection_of (get_or old.connections.items place now)).version ≡ version = ap (λ (x : Connection). (connection_of x).version) (sym c.index.ensures) in
+    let made : after ≡ map (with_session_anew session version) old.cells.items =
+    subst (λ xs. AllByRecursion (CanReopen session) xs → after ≡ map (with_session_anew session version) xs) c.as_mut_slice.ensures.value so can in
     subst
     (λ xs. Reopens session (connection_at session (connections_of old.connections.items)) (world_of old) (record { cells = xs; connections = connections_of old.connections.items }))
-    (sym (refilled old.cells after (with_session_anew session) made))
-    (reopens session old.cells.items old.connections.items place here out can))
+    (sym (refilled old.cells after (with_session_anew session version) made))
+    (reopens session version old.cells.items old.connections.items place now here same out can))
     c.reopen_in_each.ensures
