@@ -2,7 +2,7 @@
 
 use crate::bytes::TWO_UPDATES;
 use table_types::{DataType, KeyKind, Value};
-use tests_play_data::cyclic_names::names_taught;
+use tests_play_data::cyclic_names::{Names, names_taught};
 use tests_play_data::lessons::{
     Costly, Taught, comes_in_pieces, first_failing, is_taught_again, is_taught_from_copies,
     names_cost,
@@ -209,7 +209,11 @@ fn an_empty_lesson_comes_in_none(rt: HostRuntime) {
 /// The lesson of 129 names in turn, twice, writes 130 names, one of them a second time.
 #[test]
 fn names_are_written_and_read(rt: HostRuntime) {
-    assert!(rt; names_taught(rt.alloc()) == Some((3_508, 130, 128)));
+    let names = Names {
+        written: 130,
+        read: 128,
+    };
+    assert!(rt; names_taught(rt.alloc()) == Some((3_508, names)));
 }
 
 /// Updates of `lt`, which is like `st` with keys of up to 255 bytes, and of which nothing is known.

@@ -103,30 +103,49 @@ pub(crate) fn lesson(alloc: Global) -> Option<Vec<u8>> {
     Some(stream)
 }
 
-/// Returns how many names the messages write, and how many they read.
-fn names_in(alloc: Global, stream: &[u8]) -> Option<(u32, u32)> {
-    let mut decoder = Decoder::new(alloc);
-    decoder.feed(stream).ok()?;
-    let (mut written, mut read) = (0u32, 0u32);
-    for _ in 0..=UPDATES {
-        match decoder.next().ok()? {
-            Some(Message::Update(update)) => match update.name() {
-                NameField::Written(_, _) => written = written.saturating_add(1),
-                NameField::Held(_) => read = read.saturating_add(1),
-                _ => {}
-            },
-            Some(_) => {}
-            None => return None,
-        }
-    }
-    Some((written, read))
+/// How many names messages write, and how many they read.
+#[derive(Clone, Copy, Debug, PartialEq, Eq)]
+pub struct Names {
+    pub written: u32,
+    pub read: u32,
 }
 
-/// Returns how many bytes the lesson of the updates has, how many names it writes, and how many it reads.
-pub fn names_taught(alloc: Global) -> Option<(usize, u32, u32)> {
+impl Names {
+    /// Counts the name of a message, if it has one.
+    fn count(&mut self, message: &Message) {
+        let Message::Update(update) = message else {
+            return;
+        };
+        match update.name() {
+            NameField::Written(_, _) => self.written = self.written.saturating_add(1),
+            NameField::Held(_) => self.read = self.read.saturating_add(1),
+            NameField::NotStored | NameField::NoName => {}
+        }
+    }
+}
+
+/// Returns how many names the messages of a lesson of the updates write, and how many they read.
+fn names_in(alloc: Global, lesson: &[u8]) -> Option<Names> {
+    let mut decoder = Decoder::new(alloc);
+    decoder.feed(lesson).ok()?;
+    let mut names = Names {
+        written: 0,
+        read: 0,
+    };
+    for _ in 0..=UPDATES {
+        let message = decoder.next().ok()??;
+        names.count(&message);
+    }
+    Some(names)
+}
+
+/// Returns how many bytes the lesson of the updates has, and how many names it writes and reads.
+pub fn names_taught(alloc: Global) -> Option<(usize, Names)> {
     let known = known(alloc)?;
     let batch = batch(alloc, &known)?;
     let lesson = teach(alloc, &known, &batch).ok()?;
-    let (written, read) = names_in(alloc, lesson.bytes.as_slice())?;
-    Some((lesson.bytes.len(), written, read))
+    Some((
+        lesson.bytes.len(),
+        names_in(alloc, lesson.bytes.as_slice())?,
+    ))
 }

@@ -87,6 +87,11 @@ pub struct Exchange {
     pub held: &'static [u8],
 }
 
+/// Returns whether the lesson has these bytes, and came with the known state `after`.
+fn is_right(lesson: &Lesson, after: &Known, bytes: &[u8]) -> bool {
+    lesson.bytes.as_slice() == bytes && are_same(&lesson.known, after)
+}
+
 /// Teaches one batch more, and returns what is known of the learner afterwards; `None` if memory runs out, the lesson has
 /// other bytes, or it came with another known state.
 fn teach_next(
@@ -103,10 +108,7 @@ fn teach_next(
     let updates = updates(alloc, taught.0)?;
     let batch = Batch::new(alloc, known.roster(), updates).ok()?;
     match teach_and_learn(alloc, learner, known, &batch, lengths, now) {
-        Ok((lesson, after))
-            if lesson.bytes.as_slice() == taught.1 && are_same(&lesson.known, &after) => {
-            Some(after)
-        }
+        Ok((lesson, after)) if is_right(&lesson, &after, taught.1) => Some(after),
         _ => None,
     }
 }
