@@ -1,9 +1,7 @@
 //! Worlds of `t1` and one session: what steps leave in the lists of the session, on its way, and at its learner.
 
 use table_types::{CopyKind, Version};
-use tests_play_nodes::worlds::{
-    Part, Seen, Short, Story, Told, events_before_and_after, first_failing,
-};
+use tests_play_nodes::worlds::{Part, Seen, Short, Story, Told, first_failing};
 
 /// The row of key 7 with 5, as the teacher's table copies it.
 const SEVEN: Told = (1, Some(30_000), 7, 5);
@@ -361,10 +359,4 @@ static STORIES: [Story; 7] = [
 #[test]
 fn worlds(rt: HostRuntime) {
     assert_eq!(rt; first_failing(rt.alloc(), &STORIES), None);
-}
-
-/// A table with room for one event more: a break would close the session and open it, which are two, so nothing changes.
-#[test]
-fn a_break_without_room(rt: HostRuntime) {
-    assert!(rt; events_before_and_after(rt.alloc(), 999_998) == Some((999_999, 999_999)));
 }

@@ -235,19 +235,3 @@ pub fn first_failing(alloc: Global, stories: &[Story]) -> Option<(usize, Option<
     }
     None
 }
-
-/// Adds 1 to key 1 this often, and breaks the connection then. Returns how many events the table had before and after it.
-fn events_at_a_break(alloc: Global, world: World, tracks: u32) -> Option<(u64, u64)> {
-    let mut world = world;
-    for _ in 0..tracks {
-        world = after(alloc, world, &[Short::Track(1, 1)])?;
-    }
-    let before = world.cell(T1.id)?.events();
-    let broken = after(alloc, world, &[Short::Break])?;
-    Some((before, broken.cell(T1.id)?.events()))
-}
-
-/// Returns how many events the table of a new world has after this many changes of a row, and after a break behind them.
-pub fn events_before_and_after(alloc: Global, tracks: u32) -> Option<(u64, u64)> {
-    events_at_a_break(alloc, world(alloc, Version::V21)?, tracks)
-}
