@@ -107,9 +107,11 @@ fn teach_next(
 {
     let updates = updates(alloc, taught.0)?;
     let batch = Batch::new(alloc, known.roster(), updates).ok()?;
-    match teach_and_learn(alloc, learner, known, &batch, lengths, now) {
-        Ok((lesson, after)) if is_right(&lesson, &after, taught.1) => Some(after),
-        _ => None,
+    let (lesson, after) = teach_and_learn(alloc, learner, known, &batch, lengths, now).ok()?;
+    if is_right(&lesson, &after, taught.1) {
+        Some(after)
+    } else {
+        None
     }
 }
 
