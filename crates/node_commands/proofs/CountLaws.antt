@@ -63,7 +63,7 @@ none_of key (events.Track seat k change now) keeps = absurd (true≢false (sym k
 none_of key (events.Learn session u now) keeps = absurd (true≢false (sym keeps))
 none_of key (events.Copy session kind limit now) keeps = refl
 none_of key (events.Ack session number) keeps = refl
-none_of key (events.Open session) keeps = refl
+none_of key (events.Open session version) keeps = refl
 none_of key (events.Close session) keeps = absurd (true≢false (sym keeps))
 none_of key (events.Purge now) keeps = absurd (true≢false (sym keeps))
 
@@ -123,7 +123,7 @@ quiet s e (events.Track seat k change now) reply keeps step = absurd (true≢fal
 quiet s e (events.Learn session u now) reply keeps step = absurd (true≢false (sym keeps))
 quiet s e (events.Copy session kind limit now) reply keeps (granted, answer, is) = (ap (λ (x : TableState). x.definition) is, ap (λ (x : TableState). x.size) is, ap (λ (x : TableState). x.rows) is)
 quiet s e (events.Ack session number) reply keeps (granted, answer, is) = (ap (λ (x : TableState). x.definition) is, ap (λ (x : TableState). x.size) is, ap (λ (x : TableState). x.rows) is)
-quiet s e (events.Open session) reply keeps (granted, answer, is) = (ap (λ (x : TableState). x.definition) is, ap (λ (x : TableState). x.size) is, ap (λ (x : TableState). x.rows) is)
+quiet s e (events.Open session version) reply keeps (granted, answer, is) = (ap (λ (x : TableState). x.definition) is, ap (λ (x : TableState). x.size) is, ap (λ (x : TableState). x.rows) is)
 quiet s e (events.Close session) reply keeps step = absurd (true≢false (sym keeps))
 quiet s e (events.Purge now) reply keeps step = absurd (true≢false (sym keeps))
 

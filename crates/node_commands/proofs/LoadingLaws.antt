@@ -4,6 +4,7 @@ use Rattle.std.specs.List.{flat_map}
 use Rattle.std.proofs.lemmas.List.{drop_all}
 use Rattle.table_types.specs.Tables.{Definition}
 use Rattle.table_types.specs.declared.update.Update.{Update}
+use Rattle.table_types.specs.declared.version.Version.TheVariants as versions
 use Rattle.table_cell.specs.Histories.{CellState, events_of}
 use Rattle.table_cell.specs.declared.events.CellEvent.{CellEvent}
 use Rattle.table_cell.specs.declared.events.CellEvent.TheVariants as events
@@ -45,26 +46,26 @@ gains_more (call ∷ calls) more s m e (place, reply, gains) rest =
 
 -- ---- sessions
 
-opens_more : (table first count : ℕ) → opens_of table first (count + 1) ≡ opens_of table first count ++ (table, events.Open (first + count)) ∷ []
+opens_more : (table first count : ℕ) → opens_of table first (count + 1) ≡ opens_of table first count ++ (table, events.Open (first + count) versions.V21) ∷ []
 opens_more table first zero =
     let same : first ≡ first + 0 = omega arith in
-    ap (λ (n : ℕ). (table, events.Open n) ∷ []) same
+    ap (λ (n : ℕ). (table, events.Open n versions.V21) ∷ []) same
 opens_more table first (suc count) =
     let same : first + 1 + count ≡ first + suc count = omega arith in
     let step : suc count + 1 ≡ suc (count + 1) = omega arith in
-    let later : opens_of table (first + 1) (count + 1) ≡ opens_of table (first + 1) count ++ (table, events.Open (first + suc count)) ∷ [] =
-    opens_more table (first + 1) count ∙ ap (λ (n : ℕ). opens_of table (first + 1) count ++ (table, events.Open n) ∷ []) same in
-    ap (λ (n : ℕ). opens_of table first n) step ∙ ap (λ (calls : List (ℕ × CellEvent)). (table, events.Open first) ∷ calls) later
+    let later : opens_of table (first + 1) (count + 1) ≡ opens_of table (first + 1) count ++ (table, events.Open (first + suc count) versions.V21) ∷ [] =
+    opens_more table (first + 1) count ∙ ap (λ (n : ℕ). opens_of table (first + 1) count ++ (table, events.Open n versions.V21) ∷ []) same in
+    ap (λ (n : ℕ). opens_of table first n) step ∙ ap (λ (calls : List (ℕ × CellEvent)). (table, events.Open first versions.V21) ∷ calls) later
 
 pub none_opened : (table : ℕ) (s : SeatState) → Gains (opens_of table 1 0) s s
 none_opened table s = refl
 
-pub one_more_opened : (table count : ℕ) (s m e : SeatState) → Gains (opens_of table 1 count) s m → Gains ((table, events.Open (count + 1)) ∷ []) m e → Gains (opens_of table 1 (count + 1)) s e
+pub one_more_opened : (table count : ℕ) (s m e : SeatState) → Gains (opens_of table 1 count) s m → Gains ((table, events.Open (count + 1) versions.V21) ∷ []) m e → Gains (opens_of table 1 (count + 1)) s e
 one_more_opened table count s m e so_far opened =
     let same : count + 1 ≡ 1 + count = omega arith in
     subst (λ (calls : List (ℕ × CellEvent)). Gains calls s e) (sym (opens_more table 1 count))
-    (gains_more (opens_of table 1 count) ((table, events.Open (1 + count)) ∷ []) s m e so_far
-    (subst (λ (n : ℕ). Gains ((table, events.Open n) ∷ []) m e) same opened))
+    (gains_more (opens_of table 1 count) ((table, events.Open (1 + count) versions.V21) ∷ []) s m e so_far
+    (subst (λ (n : ℕ). Gains ((table, events.Open n versions.V21) ∷ []) m e) same opened))
 
 -- ---- lists
 

@@ -3,6 +3,7 @@ use Rattle.std.proofs.Common.{◌≡◌, ◌≤◌, ℕ, true, false, List, [], 
 use Rattle.std.specs.Prelude.{Err, IfOk, Ok, Result}
 use Rattle.std.specs.Io.KnownBytes.{Appends, Consumes}
 use Rattle.table_types.specs.Tables.{Definition}
+use Rattle.table_types.specs.declared.version.Version.TheVariants as versions
 use Rattle.table_shards.specs.Receipts.{fresh_seat}
 use Rattle.table_shards.specs.Audits.{AuditState}
 use Rattle.session_core.specs.Sessions.{accepting, connecting}
@@ -29,7 +30,7 @@ serving_with scene name peer n roster rising opened worker pace = (roster, risin
 -- the node that joins with the scene's tables
 pub joining_with : (scene : Scene) (name peer : List ℕ) (n : Node) (roster : List Definition) → AreInRisingId scene.tables.items roster
     → AreOpened 1 roster [] n.tables
-    → n.worker ≡ record { session = connecting (record { remote = peer; local = name; pid = 1; relative = 1 }) roster false; seat = fresh_seat 2; number = 1 }
+    → n.worker ≡ record { session = connecting (record { remote = peer; local = name; pid = 1; relative = 1; version = versions.V21 }) roster false; seat = fresh_seat 2; number = 1 }
     → n.pace ≡ record { leaves = true; stands = false } → IsJoining scene name peer n
 unfolding IsJoining
 joining_with scene name peer n roster rising opened worker pace = (roster, rising, opened, worker, pace)

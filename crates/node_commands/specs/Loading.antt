@@ -2,6 +2,7 @@
 use Rattle.std.specs.Prelude.{◌≡◌, ◌^◌, ◌+◌, ℕ, zero, suc, ◌==◌, false, List, [], ◌∷◌, ◌++◌, flat_map, if◌then◌else◌, map}
 use Rattle.table_types.specs.Tables.{Definition}
 use Rattle.table_types.specs.declared.update.Update.{Update}
+use Rattle.table_types.specs.declared.version.Version.TheVariants as versions
 use Rattle.table_cell.specs.Histories.{CellState, new_cell}
 use Rattle.table_cell.specs.declared.events.CellEvent.{CellEvent}
 use Rattle.table_cell.specs.declared.events.CellEvent.TheVariants as events
@@ -20,10 +21,10 @@ Gains [] s e = e ≡ s
 Gains (call ∷ calls) s e =
     (place : ℕ) × (reply : CellReply) × Gains calls (with_receipt s call.0 (record { place = place; event = call.1; reply = reply })) e
 
--- `count` sessions are opened in the table, in order, from session `first` on
+-- `count` sessions of version 2.1 are opened in the table, in order, from session `first` on
 abbrev pub opens_of : ℕ → ℕ → ℕ → List (ℕ × CellEvent)
 opens_of table first zero = []
-opens_of table first (suc count) = (table, events.Open first) ∷ opens_of table (first + 1) count
+opens_of table first (suc count) = (table, events.Open first versions.V21) ∷ opens_of table (first + 1) count
 
 -- the table learns the update in session 1, if it is the table's own
 abbrev pub learn_of : ℕ → Update → List (ℕ × CellEvent)

@@ -2,6 +2,7 @@
 use Rattle.std.specs.Prelude.{◌≡◌, ◌≢◌, ◌≤◌, ℕ, Bool, true, false, List, [], ◌∷◌, length, take, Option}
 use Rattle.std.specs.Io.KnownBytes.{Appends}
 use Rattle.table_types.specs.Tables.{Definition}
+use Rattle.table_types.specs.declared.version.Version.TheVariants as versions
 use Rattle.table_shards.specs.Receipts.{fresh_seat}
 use Rattle.table_shards.specs.Audits.{AuditState}
 use Rattle.session_core.specs.Sessions.{accepting, connecting}
@@ -36,7 +37,7 @@ IsJoining scene name peer n =
     (roster : List Definition)
     × AreInRisingId scene.tables.items roster
     × AreOpened 1 roster [] n.tables
-    × (n.worker ≡ record { session = connecting (record { remote = peer; local = name; pid = 1; relative = 1 }) roster false; seat = fresh_seat 2; number = 1 })
+    × (n.worker ≡ record { session = connecting (record { remote = peer; local = name; pid = 1; relative = 1; version = versions.V21 }) roster false; seat = fresh_seat 2; number = 1 })
     × (n.pace ≡ record { leaves = true; stands = false })
 
 -- What a node prints after a session of at most `turns` turns, which received and sent the bytes given: how many turns it made, and

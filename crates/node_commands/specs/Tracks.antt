@@ -20,7 +20,7 @@ HasTracked tracks s = (length (receipts_of 1 s) ≡ tracks) × AllByRecursion (I
 abbrev pub is_work : CellEvent → Bool
 is_work (events.Copy session kind limit now) = session == 1
 is_work (events.Ack session number) = session == 1
-is_work (events.Open session) = session == 1
+is_work (events.Open session version) = session == 1
 is_work event = false
 
 -- the seat of a thread has tracked as often as the thread was asked to, and any other seat has done the worker's work alone

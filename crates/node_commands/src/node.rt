@@ -10,6 +10,7 @@ mod turns;
 ghost use Rattle.std.specs.Prelude.{◌≡◌, ◌≢◌, ◌⊎◌, ◌∷◌, [], ℕ, List, true, false, IfErr, IfOk, string_bytes};
 ghost use Rattle.std.specs.Io.KnownBytes.{Appends, Consumes};
 ghost use Rattle.node_text.specs.declared.scenes.Scene.{Scene};
+ghost use Rattle.table_types.specs.declared.version.Version.TheVariants as versions;
 ghost use Rattle.text_commands.specs.Endings.{IsEarly, line_of};
 ghost use Rattle.text_commands.specs.declared.endings.Ending.TheVariants as endings;
 ghost use Rattle.session_core.specs.Sessions.{connecting};
@@ -34,7 +35,7 @@ use std::alloc::Global;
 use std::io::{Read, Write};
 use std::sync::Wait;
 use table_shards::Seat;
-use table_types::{Memory, Name, Roster};
+use table_types::{Memory, Name, Roster, Version};
 use text_commands::{Ending, rising_roster};
 pub(crate) use totals::total_of;
 
@@ -105,13 +106,14 @@ fn serving_of<H: Wait>(
 
 /// Makes the session of a node that joins: it isn't up to date.
 fn joining_session(alloc: Global, name: Name, peer: Name, roster: Roster) -> Result<Session, Memory>
-    ensures { IfOk result (λ session. session ≡ connecting (record { remote = peer; local = name; pid = 1; relative = 1 }) roster false) }
+    ensures { IfOk result (λ session. session ≡ connecting (record { remote = peer; local = name; pid = 1; relative = 1; version = versions.V21 }) roster false) }
 {
     let hello = Hello {
         remote: peer,
         local: name,
         pid: 1,
         relative: 1,
+        version: Version::V21,
     };
     Session::connect(alloc, hello, roster, false)
 }

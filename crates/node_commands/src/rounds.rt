@@ -32,7 +32,7 @@ use std::thread::{Promise, PromisedHandle, Threads};
 use table_cell::OpenError;
 use table_shards::held::lent;
 use table_shards::{Audit, RoundError, Seat, Shards};
-use table_types::Memory;
+use table_types::{Memory, Version};
 use text_commands::Ending;
 pub use tracking::track_all;
 pub use worker::work;
@@ -244,7 +244,7 @@ fn open<R: Wait>(rt: &R, shards: &Shards, seat: &mut Seat) -> Result<(), Ending>
     ensures { OnOk result (GainsWork seat.old seat.new) }
 {
     let mut locked = lock(rt, shards, TABLE)?;
-    match lent::open_session(&mut locked, seat, TABLE, SESSION) {
+    match lent::open_session(&mut locked, seat, TABLE, SESSION, Version::V21) {
         Ok(()) => Ok(()),
         Err(error) => Err(refused(error, OpenError::Memory)),
     }

@@ -5,6 +5,7 @@ ghost use Rattle.table_cell.specs.declared.events.CellEvent.TheVariants as event
 ghost use Rattle.table_shards.specs.Receipts.{fresh_seat};
 ghost use Rattle.table_shards.specs.Rounds.{fresh_from};
 ghost use Rattle.text_commands.specs.Endings.{IsEarly};
+ghost use Rattle.table_types.specs.declared.version.Version.TheVariants as versions;
 ghost use Rattle.node_commands.specs.Loading.{AreOpened, Gains, learn_of, load_of, loaded_at, loads_of, new_of, opens_of};
 
 use crate::locks::{lock, refused};
@@ -13,7 +14,7 @@ use std::sync::Wait;
 use table_cell::{LearnError, OpenError, TableCell};
 use table_shards::held::lent;
 use table_shards::{Seat, Shards};
-use table_types::{Memory, Moment, Roster, TableDef, Update};
+use table_types::{Memory, Moment, Roster, TableDef, Update, Version};
 use text_commands::Ending;
 
 /// The number of the first session, in which the rows are loaded.
@@ -82,11 +83,11 @@ fn open_one<H: Wait>(
     table: u64,
     session: u32,
 ) -> Result<(), Ending>
-    ensures opened { OnOk result (Gains ((table, events.Open session) ∷ []) seat.old seat.new) }
+    ensures opened { OnOk result (Gains ((table, events.Open session versions.V21) ∷ []) seat.old seat.new) }
     ensures early { IfErr result IsEarly }
 {
     let mut locked = lock(rt, shards, table)?;
-    match lent::open_session(&mut locked, seat, table, session) {
+    match lent::open_session(&mut locked, seat, table, session, Version::V21) {
         Ok(()) => Ok(()),
         Err(error) => Err(refused(error, OpenError::Memory)),
     }

@@ -43,7 +43,7 @@ pub(crate) fn roster(alloc: Global) -> Result<Roster, Ending> {
 /// Returns the table, with no rows and no open session.
 pub(crate) fn new_table(alloc: Global) -> Result<TableCell, Ending>
     ensures made { IfOk result (λ cell. cell ≡ new_cell round_table 1000000 false 1) }
-    ensures begun { IfOk result (λ cell. begun cell ≡ (1, 0)) }
+    ensures begun { IfOk result (λ cell. begun cell ≡ (1, 0, 0)) }
 {
     let most = TableCell::MOST_ROWS;
     Ok(TableCell::new(alloc, definition(alloc)?, most, false, FIRST)?)
