@@ -10,6 +10,7 @@ use crate::node::Node;
 use crate::slot::{Arrival, Slot};
 use node_text::push_number;
 use peers_hello::{Answer, Hello};
+use session_core::only_v21;
 use std::alloc::Global;
 use std::io::{Read, Write};
 use std::net::{TcpListener, TcpStream};
@@ -239,14 +240,16 @@ impl<'a, R: Wait + Clock> Door<'a, R> {
     fn answer(&self, stream: &TcpStream, bytes: &[u8]) -> Option<Found> {
         let node = self.node;
         let own = &node.configuration.node;
-        match Hello::read(node.alloc, bytes, own, node.names.as_slice()) {
-            Ok(Answer::Accepted(name, _)) => Some(Found::Peer(name)),
-            Ok(Answer::Refused(code, _)) => {
+        let Ok(answer) = Hello::read(node.alloc, bytes, own, node.names.as_slice()) else {
+            return Some(Found::Nothing);
+        };
+        match only_v21(answer) {
+            Answer::Accepted(name, _, _) => Some(Found::Peer(name)),
+            Answer::Refused(code, _) => {
                 let _refused = refuse(node.alloc, stream, code);
                 Some(Found::Nothing)
             }
-            Ok(Answer::More) => None,
-            Err(_) => Some(Found::Nothing),
+            Answer::More => None,
         }
     }
 

@@ -21,7 +21,7 @@ use std::thread;
 use std::thread::{Scope, Threads};
 use std::time::Clock;
 use table_shards::Seat;
-use table_types::{Memory, Moment, Name};
+use table_types::{Memory, Moment, Name, Version};
 
 /// A peer's place in a node that runs.
 #[derive(Drop)]
@@ -59,6 +59,7 @@ fn session_of(
                 local: own,
                 pid: 1,
                 relative: 1,
+                version: Version::V21,
             };
             Session::connect(alloc, hello, roster, up_to_date)
         }

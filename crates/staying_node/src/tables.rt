@@ -9,7 +9,7 @@ use std::time::Clock;
 use table_cell::TableCell;
 use table_shards::held::lent;
 use table_shards::{Locked, Seat};
-use table_types::Moment;
+use table_types::{Moment, Version};
 
 /// A history with this many events slides, and a seat with this many receipts of a table drops them.
 pub(crate) const MANY: u64 = 1_024;
@@ -133,7 +133,7 @@ pub(crate) fn reopen<R: Wait>(rt: &R, node: &Node, seat: &mut Seat, session: u32
         let Some(mut locked) = lock(rt, node, id) else {
             return false;
         };
-        if lent::open_session(&mut locked, seat, id, session).is_err() {
+        if lent::open_session(&mut locked, seat, id, session, Version::V21).is_err() {
             return false;
         }
     }
