@@ -225,6 +225,19 @@ def hellos(trial):
 
 
 @check
+def refused_hellos(trial):
+    """a hello that is refused, also one of version 2.0 that names a peer, ends no session that stands"""
+    node = node_of_b(trial)
+    b = connected(trial, node)
+    answers_to = ((hello('n', 'b', b'HAProxyS 2.0'), b'502\n'), (hello('n', 'b', b'HAProxyS 2.2'), b'502\n'),
+                  (hello('x', 'b', b'HAProxyS 2.0'), b'503\n'), (hello('n', 'z', b'HAProxyS 2.0'), b'504\n'))
+    for value, (data, status) in enumerate(answers_to, 1):
+        equal(answer_to(trial, node, data), status, 'the answer to %r' % data)
+        still_learns(node, b, value)
+    equal(node.peer('b')['sessions'], '1', 'sessions')
+
+
+@check
 def hello_in_pieces(trial):
     """a hello may come byte by byte, with messages right behind it"""
     node = node_of_b(trial)
