@@ -179,7 +179,7 @@ tight slots held rs keep prices as_many are well =
     turned : (i : ℕ) → i + 1 ≡ 1 + i
     turned i = omega arith
 
--- each of two accepted plans saves the bound of its own prices, and the other saves no more than that
+-- of two accepted plans, each saves the bound of its own prices, which is at least what the other saves
 pub accepted_same : (slots : ℕ) (held : List (List ℕ)) (rs : List Asked) (one other : Plan) → Accepts slots held rs one → Accepts slots held rs other → kept_savings (links held rs one.keep) ≡ kept_savings (links held rs other.keep)
 accepted_same slots held rs one other first second =
     omega (arith, first.tight, second.tight, savings_bounded slots held rs one.keep other.prices first.keep first.room, savings_bounded slots held rs other.keep one.prices second.keep second.room)
