@@ -6,6 +6,10 @@ mod fields;
 mod messages;
 mod updates;
 
+pub use definitions::named_at;
 pub(crate) use definitions::period_at;
+pub use fields::{bytes_at, integer_at};
 pub(crate) use messages::message_at;
+pub use messages::{Frame, frame_at};
 pub(crate) use updates::{is_name_shape, value_at};
+pub use updates::{name_at, optional_at};

@@ -2,7 +2,7 @@
 use Rattle.std.proofs.Common.{◌≡◌, ℕ, false, List, [], ◌∷◌, ◌++◌, ◌-◌, length, length-append, drop, Option, Some, None, Result, Ok, Err, refl, sym, ap, subst, ◌∙◌, append_assoc, arith}
 use Rattle.std.proofs.lemmas.List.{append-nil}
 use Rattle.std.proofs.Math.Seq.{drop-append_seam}
-use Rattle.peers_encint.specs.Integers.{IsBytes}
+use Rattle.peers_msg.specs.Integers.{IsBytes}
 use Rattle.peers_msg.specs.declared.fault.Breach.{Breach}
 use Rattle.peers_msg.specs.Decoding.{together}
 use Rattle.peers_msg.specs.Reading.{Frame, frame_at}

@@ -2,7 +2,7 @@
 use Rattle.std.proofs.Common.{◌≡◌, ℕ, Bool, true, false, eqb, ◌&&◌, List, [], length, Option, Some, None, Result, Ok, Err, refl, sym, ap, subst, ◌∙◌, inl, inr}
 use Rattle.std.specs.Prelude.{not}
 use Rattle.std.proofs.lemmas.Bool.{cases_Bool}
-use Rattle.peers_encint.specs.Integers.{IsBytes}
+use Rattle.peers_msg.specs.Integers.{IsBytes}
 use Rattle.table_types.specs.Tables.{Definition}
 use Rattle.table_types.specs.Keys.{number_of}
 use Rattle.peers_msg.specs.declared.fault.Breach.{Breach}

@@ -2,7 +2,7 @@
 use Rattle.std.proofs.Common.{◌≡◌, ◌≢◌, ℕ, Bool, true, false, List, [], ◌∷◌, ◌++◌, ◌-◌, length, Option, Some, None, Result, Ok, Err, refl, sym, ap, subst, ◌∙◌, append_assoc, inl, inr, arith}
 use Rattle.std.proofs.lemmas.Bool.{cases_Bool}
 use Rattle.std.proofs.lemmas.List.{append-nil}
-use Rattle.peers_encint.specs.Integers.{IsBytes}
+use Rattle.peers_msg.specs.Integers.{IsBytes}
 use Rattle.peers_msg.specs.declared.fault.Breach.{Breach}
 use Rattle.peers_msg.specs.Decoding.{together}
 use Rattle.peers_msg.specs.Reading.{Frame, frame_at, with_more}

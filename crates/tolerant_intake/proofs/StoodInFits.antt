@@ -1,7 +1,7 @@
 -- An update of a stand-in fits it.
 use Rattle.std.proofs.Common.{◌≡◌, ℕ, Bool, true, eqb, List, [], ◌∷◌, Option, Some, Ok, refl, sym, ap, subst, ◌∙◌, inl, inr}
 use Rattle.std.proofs.lemmas.Bool.{cases_Bool, and_parts}
-use Rattle.peers_encint.specs.Integers.{IsBytes}
+use Rattle.peers_msg.specs.Integers.{IsBytes}
 use Rattle.table_types.specs.declared.data_type.DataType.{DataType}
 use Rattle.table_types.specs.declared.data_type.Shape.{Shape}
 use Rattle.table_types.specs.declared.data_type.Shape.TheVariants as shapes

@@ -1,7 +1,7 @@
 -- What the strict intake reads of a message whose class, type and data are known.
 use Rattle.std.proofs.Common.{◌≡◌, ℕ, ◌+◌, ◌-◌, List, ◌++◌, length, length-append, take, arith, Option, Some, None, Result, Ok, Err, sym, ap, ◌∙◌}
 use Rattle.std.proofs.Math.Seq.{take-append_seam}
-use Rattle.peers_encint.specs.Integers.{IsBytes}
+use Rattle.peers_msg.specs.Integers.{IsBytes}
 use Rattle.peers_msg.specs.declared.message.Message.{Message}
 use Rattle.peers_msg.specs.declared.fault.Breach.{Breach}
 use Rattle.peers_msg.specs.Received.{Received}

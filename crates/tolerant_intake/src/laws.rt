@@ -4,7 +4,7 @@ ghost use Rattle.std.specs.Prelude.{◌≡◌, ◌<◌, ◌-◌, ◌++◌, ℕ, 
 ghost use Rattle.std.specs.List.{list_any};
 ghost use Rattle.table_types.specs.Rosters.{roster_fault};
 ghost use Rattle.table_types.specs.Shapes.{is_shape_of};
-ghost use Rattle.peers_encint.specs.Integers.{IsBytes};
+ghost use Rattle.peers_msg.specs.Integers.{IsBytes};
 ghost use Rattle.peers_msg.specs.declared.message.Message.{Message};
 ghost use Rattle.peers_msg.specs.declared.message.Message.TheVariants as messages;
 ghost use Rattle.peers_msg.specs.Messages.{UpdateFields};

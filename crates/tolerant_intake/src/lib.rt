@@ -5,8 +5,6 @@
 mod change;
 mod counted_update;
 mod definitions;
-mod fields;
-mod frame;
 mod laws;
 mod loose_definition;
 mod loose_table;

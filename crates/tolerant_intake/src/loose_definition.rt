@@ -3,19 +3,17 @@
 ghost use Rattle.std.specs.Prelude.{◌≡◌, ◌↔◌, true, IfOk, IsTrue};
 ghost use Rattle.table_types.specs.declared.table_def.DefError.{DefError};
 ghost use Rattle.peers_msg.specs.Borrowed.{Reads};
-ghost use Rattle.peers_msg.specs.Reading.{named_at};
 ghost use Rattle.table_types.specs.Names.{is_name};
 ghost use Rattle.table_types.specs.Tables.{is_id};
 ghost use Rattle.tolerant_intake.specs.Loose.{loose_definition_at, has_name_type};
 ghost use Rattle.tolerant_intake.specs.StandIns.{has_short_keys, other_length, name_type_of, stand_in, loose_table, cause_of};
 
-use crate::fields::{bytes_at, integer_at, wanted};
 use crate::loose_table::{LooseTable, types_stored};
 use crate::loose_update::has_name_type;
 use crate::passed_over::Cause;
-use peers_msg::Breach;
+use peers_msg::{Breach, integer_at, named_at};
 use std::alloc::Global;
-use table_types::{DataType, DefError, KeyKind, Memory, Roster, TableDef, is_name, is_same_name};
+use table_types::{DataType, DefError, KeyKind, Memory, Roster, TableDef, is_same_name};
 
 /// What is read of a definition outside the profile (HAProxy, doc/peers-v2.0.txt, "Table Definition Message").
 #[derive(Clone, Copy)]
@@ -28,21 +26,6 @@ pub(crate) struct LooseDefinition<'a> {
     pub key_length: u64,
     /// One bit for each data type.
     pub bits: u64,
-}
-
-/// Reads a table's id and name.
-#[tactic(auto, unfolding(peers_msg::specs::Reading::named_at))]
-fn named_at(bytes: &[u8]) -> Result<((u64, &[u8]), &[u8]), Breach>
-    ensures named { Reads (λ x. ((x.0.0, x.0.1.now), x.1.now)) result (named_at bytes.now) }
-    ensures id { IfOk result (λ x. is_id x.0.0 ≡ true) }
-    ensures name { IfOk result (λ x. is_name x.0.1.now ≡ true) }
-{
-    let (id, rest) = integer_at(Breach::BadDefinition, bytes)?;
-    wanted(1 <= id && id < 1 << 32, Breach::BadDefinition)?;
-    let (count, rest) = integer_at(Breach::BadDefinition, rest)?;
-    let (name, rest) = bytes_at(Breach::BadDefinition, count, rest)?;
-    wanted(is_name(name), Breach::BadDefinition)?;
-    Ok(((id, name), rest))
 }
 
 /// Reads a definition up to its expire, each field of any size but the id and the name.

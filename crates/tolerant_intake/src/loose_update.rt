@@ -5,8 +5,7 @@ ghost use Rattle.table_types.specs.Updates.{is_name_shape};
 ghost use Rattle.peers_msg.specs.Borrowed.{Reads, owned_name, is_named};
 ghost use Rattle.tolerant_intake.specs.Loose.{LooseUpdate, counted_after, key_after, integer_after, value_after, values_after, has_name_type, loose_update_at};
 
-use crate::fields::{bytes_at, integer_at, name_at, optional_at};
-use peers_msg::{Breach, NameFieldRef};
+use peers_msg::{Breach, NameFieldRef, bytes_at, integer_at, name_at, optional_at};
 use table_types::{DataType, Shape};
 
 /// What is read of an update whose values may be of any size (HAProxy, doc/peers-v2.0.txt, "Update Messages").

@@ -13,7 +13,6 @@ ghost use Rattle.tolerant_intake.specs.Passages.{Passage, Cut, of_other, of_bad_
 ghost use Rattle.tolerant_intake.specs.Changes.{Answers};
 
 use crate::change::Change;
-use crate::frame::Frame;
 use crate::loose_update::loose_update_at;
 use crate::passed_over::Cause;
 use crate::sieve::Sieve;
@@ -21,7 +20,7 @@ use crate::sieve_error::SieveError;
 use crate::strict::read;
 use crate::updates::{skipped, writes};
 use known_state::Effect;
-use peers_msg::{Breach, MessageRef};
+use peers_msg::{Breach, Frame, Meaning, MessageRef};
 
 /// An update without data, which no strict intake reads: class 10, type 129.
 const NO_UPDATE: [u8; 3] = [10, 129, 0];
@@ -165,12 +164,12 @@ impl Sieve {
         let bytes = self.unread();
         let read = read(self.state.received(), bytes, frame, rest);
         let came = &bytes[..bytes.len() - rest.len()];
-        match frame.update_form() {
-            Some((numbered, timed)) => {
+        match frame.meaning() {
+            Meaning::Update { numbered, timed } => {
                 self.plan_any_update(numbered, timed, frame.body, read, came, out)
             }
-            None if frame.is_define() => self.plan_any_definition(frame.body, read, came, out),
-            None => self.plan_other(read, came, out),
+            Meaning::Define => self.plan_any_definition(frame.body, read, came, out),
+            _ => self.plan_other(read, came, out),
         }
     }
 }

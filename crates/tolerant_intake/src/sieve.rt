@@ -8,12 +8,11 @@ ghost use Rattle.tolerant_intake.specs.Sifts.{Sifted, SiftsOne, IsFull, IsWaitin
 ghost use Rattle.tolerant_intake.specs.Changes.{Looks};
 
 use crate::change::Change;
-use crate::frame::frame_at;
 use crate::loose_table::LooseTable;
 use crate::passed_over::{Cause, PassedOver};
 use crate::sieve_error::SieveError;
 use known_state::{LastNumbers, State};
-use peers_msg::Unread;
+use peers_msg::{Unread, frame_at};
 use std::alloc::Global;
 use std::collections::BTreeMap;
 use std::marker::Model;

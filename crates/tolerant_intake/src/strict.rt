@@ -7,8 +7,7 @@ ghost use Rattle.peers_msg.specs.Fitting.{fits};
 ghost use Rattle.peers_msg.specs.Reading.{body_at, frame_at};
 ghost use Rattle.peers_msg.specs.Spelling.{spelled};
 
-use crate::frame::Frame;
-use peers_msg::{Breach, MessageRef, Received, front};
+use peers_msg::{Breach, Frame, MessageRef, Received, front};
 
 /// Reads the message with this frame, which is at the front of `bytes`, before `rest`.
 pub(crate) fn read<'a>(

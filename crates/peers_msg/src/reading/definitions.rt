@@ -2,6 +2,8 @@
 
 ghost use Rattle.std.specs.Prelude.{◌≡◌, true, IfOk};
 ghost use Rattle.table_types.specs.DataTypes.{all_types};
+ghost use Rattle.table_types.specs.Names.{is_name};
+ghost use Rattle.table_types.specs.Tables.{is_id};
 ghost use Rattle.peers_msg.specs.Borrowed.{Reads, is_read, list_read};
 ghost use Rattle.peers_msg.specs.Reading.{kind_of, period_at, types_at, named_at, keyed_at, stored_at, definition_at};
 
@@ -53,10 +55,13 @@ fn types_end(bits: u64, bytes: &[u8]) -> Result<&[u8], Breach>
     Ok(rest)
 }
 
-/// Reads a table's id and name.
+/// Reads the id and the name of a table, with which its definition begins, and returns them with the bytes after them.
+/// Returns `BadDefinition` if one of them is cut short or out of range, unless an integer of 2^64 or more comes before.
 #[tactic(auto, unfolding(crate::specs::Reading::named_at))]
-fn named_at(bytes: &[u8]) -> Result<((u64, &[u8]), &[u8]), Breach>
-    ensures { Reads (λ x. ((x.0.0, x.0.1.now), x.1.now)) result (named_at bytes.now) }
+pub fn named_at(bytes: &[u8]) -> Result<((u64, &[u8]), &[u8]), Breach>
+    ensures named { Reads (λ x. ((x.0.0, x.0.1.now), x.1.now)) result (named_at bytes.now) }
+    ensures id { IfOk result (λ x. is_id x.0.0 ≡ true) }
+    ensures name { IfOk result (λ x. is_name x.0.1.now ≡ true) }
 {
     let (id, rest) = integer_at(Breach::BadDefinition, bytes)?;
     wanted(1 <= id && id < 1 << 32, Breach::BadDefinition)?;

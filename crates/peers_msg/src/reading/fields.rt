@@ -23,10 +23,11 @@ pub(crate) fn ended(rest: &[u8]) -> Result<(), Breach>
     wanted(rest.is_empty(), Breach::Trailing)
 }
 
-/// Reads an encoded integer. Returns `short` if the bytes end before the integer does.
+/// Reads an encoded integer and returns it with the bytes after it. Returns `short` if the bytes end before the integer
+/// does, and `BadInteger` for an integer of 2^64 or more.
 #[inline(always)]
 #[tactic(auto, unfolding(crate::specs::Reading::integer_at))]
-pub(crate) fn integer_at(short: Breach, bytes: &[u8]) -> Result<(u64, &[u8]), Breach>
+pub fn integer_at(short: Breach, bytes: &[u8]) -> Result<(u64, &[u8]), Breach>
     ensures { Reads (λ x. (x.0, x.1.now)) result (integer_at short bytes.now) }
 {
     match get(bytes) {
@@ -48,10 +49,10 @@ pub(crate) fn word_at(short: Breach, bytes: &[u8]) -> Result<(u32, &[u8]), Breac
     }
 }
 
-/// Reads `count` bytes.
+/// Reads `count` bytes and returns them with the bytes after them. Returns `short` if there are fewer.
 #[inline(always)]
 #[tactic(auto, unfolding(crate::specs::Reading::bytes_at))]
-pub(crate) fn bytes_at(short: Breach, count: u64, bytes: &[u8]) -> Result<(&[u8], &[u8]), Breach>
+pub fn bytes_at(short: Breach, count: u64, bytes: &[u8]) -> Result<(&[u8], &[u8]), Breach>
     ensures { Reads (λ x. (x.0.now, x.1.now)) result (bytes_at short count bytes.now) }
 {
     if (bytes.len() as u64) < count {

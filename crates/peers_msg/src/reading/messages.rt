@@ -1,6 +1,6 @@
 //! Reading messages, which may not be complete yet.
 
-ghost use Rattle.std.specs.Prelude.{◌≡◌, true, option_map};
+ghost use Rattle.std.specs.Prelude.{◌≡◌, ◌<◌, ◌≤◌, true, IfErr, IfOk, IfSome, length, option_map};
 ghost use Rattle.peers_msg.specs.declared.meaning.Meaning.TheVariants as meanings;
 ghost use Rattle.peers_msg.specs.Messages.{is_other};
 ghost use Rattle.peers_msg.specs.Borrowed.{Reads};
@@ -118,12 +118,24 @@ fn meant(class: u8, message_type: u8) -> Meaning
     }
 }
 
-/// A message's class, type and data.
+/// A message's class, type and data (HAProxy, doc/peers-v2.0.txt, "Messages").
 #[derive(Clone, Copy)]
-struct Frame<'a> {
-    class: u8,
-    message_type: u8,
-    body: &'a [u8],
+pub struct Frame<'a> {
+    /// The message's class.
+    pub class: u8,
+    /// Its type within the class.
+    pub message_type: u8,
+    /// Its data: none if the type is below 128.
+    pub body: &'a [u8],
+}
+
+impl<'a> Frame<'a> {
+    /// Returns the meaning of the message's class and type.
+    pub fn meaning(self) -> Meaning
+        ensures { result ≡ meant self.entry.class self.entry.message_type }
+    {
+        meant(self.class, self.message_type)
+    }
 }
 
 #[inline(always)]
@@ -152,7 +164,8 @@ fn message_of<'a>(
 #[inline(always)]
 #[tactic(auto, unfolding(crate::specs::Reading::data_at))]
 fn data_at(message_type: u8, bytes: &[u8]) -> Result<Option<(&[u8], &[u8])>, Breach>
-    ensures { Reads (option_map (λ x. (x.0.now, x.1.now))) result (data_at message_type bytes.now) }
+    ensures data { Reads (option_map (λ x. (x.0.now, x.1.now))) result (data_at message_type bytes.now) }
+    ensures within { IfOk result (λ found. IfSome found (λ x. length x.1.now ≤ length bytes.now)) }
 {
     if message_type < 128 {
         return Ok(Some(bytes.split_at(0)));
@@ -171,11 +184,14 @@ fn data_at(message_type: u8, bytes: &[u8]) -> Result<Option<(&[u8], &[u8])>, Bre
     Ok(Some(rest.split_at(count as usize)))
 }
 
-/// Reads class, type and data at the front, if they are complete. Until then, no byte of the data is looked at.
+/// Reads class, type and data at the front and returns them with the bytes after them, or `None` while they aren't complete.
+/// Until then, no byte of the data is looked at. Returns `BadInteger` or `SizeLimit` if the length of the data is too large.
 #[inline(always)]
 #[tactic(auto, unfolding(crate::specs::Reading::frame_at))]
-fn frame_at(bytes: &[u8]) -> Result<Option<(Frame<'_>, &[u8])>, Breach>
-    ensures { Reads (option_map (λ x. (record { class = x.0.class; message_type = x.0.message_type; body = x.0.body.now }, x.1.now))) result (frame_at bytes.now) }
+pub fn frame_at(bytes: &[u8]) -> Result<Option<(Frame<'_>, &[u8])>, Breach>
+    ensures frame { Reads (option_map (λ x. (record { class = x.0.class; message_type = x.0.message_type; body = x.0.body.now }, x.1.now))) result (frame_at bytes.now) }
+    ensures fewer { IfOk result (λ found. IfSome found (λ x. length x.1.now < length bytes.now)) }
+    ensures some { IfErr result (λ _. 1 ≤ length bytes.now) }
 {
     let [class, message_type, later @ ..] = bytes else {
         return Ok(None);

@@ -11,9 +11,11 @@ use crate::fault::Breach;
 use crate::name_field_ref::NameFieldRef;
 use table_types::{DataType, KeyKind, Shape, TableDef, Value, is_name, is_slot};
 
+/// Reads an update's number or its life, four bytes in big-endian order, if it stands there. Returns it with the bytes
+/// after it, and `BadKey` if there are fewer bytes.
 #[inline(always)]
 #[tactic(auto, unfolding(crate::specs::Reading::optional_at))]
-fn optional_at(stands: bool, bytes: &[u8]) -> Result<(Option<u32>, &[u8]), Breach>
+pub fn optional_at(stands: bool, bytes: &[u8]) -> Result<(Option<u32>, &[u8]), Breach>
     ensures { Reads (λ x. (x.0, x.1.now)) result (optional_at stands bytes.now) }
 {
     if !stands {
@@ -152,9 +154,11 @@ fn field_of(bytes: &[u8]) -> Result<NameFieldRef<'_>, Breach>
     slot_holds(slot as u8, rest)
 }
 
+/// Reads the name field of an update, if it stands there: if the table stores the server's name. Returns it with the bytes
+/// after it. Returns `BadValue` if it is malformed, unless an integer of 2^64 or more comes before.
 #[inline(always)]
 #[tactic(auto, unfolding(crate::specs::Reading::name_at))]
-fn name_at(stands: bool, bytes: &[u8]) -> Result<(NameFieldRef<'_>, &[u8]), Breach>
+pub fn name_at(stands: bool, bytes: &[u8]) -> Result<(NameFieldRef<'_>, &[u8]), Breach>
     ensures field { Reads (λ x. (owned_name x.0, x.1.now)) result (name_at stands bytes.now) }
     ensures named { IfOk result (λ x. is_named (owned_name x.0) ≡ true) }
 {
