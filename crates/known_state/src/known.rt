@@ -119,7 +119,8 @@ impl From<Refusal> for StepError {
 pub struct Known {
     alloc: Global,
     roster: Roster,
-    state: State,
+    /// On the heap, since the slots take 4 KiB, and a known state moves from call to call.
+    state: Box<State>,
 }
 
 impl Model for Known {
@@ -127,21 +128,30 @@ impl Model for Known {
 
     ghost Value = { KnownState };
 
-    ghost view = { λ k. record { roster = k.roster; state = k.state } };
+    ghost view = { λ k. record { roster = k.roster; state = k.state.value } };
 
-    ghost invariant = { λ k. AreOwn k.roster k.state.received.tables };
+    ghost invariant = { λ k. AreOwn k.roster k.state.value.received.tables };
 }
 
 impl Known {
-    /// Returns the state of a learner that has received nothing. Doesn't allocate.
-    pub fn fresh(alloc: Global, roster: Roster) -> Known
-        ensures { result ≡ fresh_of roster }
+    /// Returns the known state with these parts.
+    fn from_parts(alloc: Global, roster: Roster, state: State) -> Result<Known, Memory>
+        requires { AreOwn roster state.received.tables }
+        ensures { IfOk result (λ known. known ≡ record { roster = roster; state = state }) }
     {
-        Known {
+        let state = Box::new(alloc, state)?;
+        Ok(Known {
             alloc,
             roster,
-            state: State::new(alloc),
-        }
+            state,
+        })
+    }
+
+    /// Returns the state of a learner that has received nothing.
+    pub fn fresh(alloc: Global, roster: Roster) -> Result<Known, Memory>
+        ensures { IfOk result (λ known. known ≡ fresh_of roster) }
+    {
+        Known::from_parts(alloc, roster, State::new(alloc))
     }
 
     /// Returns the state of a learner to which the tables `defined` were defined, with `selected` selected, and with
@@ -176,11 +186,8 @@ impl Known {
         }
         let received = Received::resume(alloc, &roster, ids, selected)?;
         let last_numbers = LastNumbers::of(alloc, last_numbers)?;
-        Ok(Known {
-            alloc,
-            roster,
-            state: State::of(alloc, received, last_numbers, slots),
-        })
+        let state = State::of(alloc, received, last_numbers, slots);
+        Ok(Known::from_parts(alloc, roster, state)?)
     }
 
     /// Returns what a teacher of `roster` knows of a learner in `state`: the tables of the roster whose id stands for
@@ -195,11 +202,8 @@ impl Known {
             .own_part(alloc, state.received(), &roster)?;
         let slots = state.slots().copy(alloc)?;
         let received = state.received().own_part(alloc, &roster)?;
-        Ok(Known {
-            alloc,
-            roster,
-            state: State::of(alloc, received, last_numbers, slots),
-        })
+        let known = State::of(alloc, received, last_numbers, slots);
+        Known::from_parts(alloc, roster, known)
     }
 
     /// Returns the roster.
@@ -296,7 +300,7 @@ impl Known {
         let Some(_) = self.roster.table(id) else {
             return Some(StepError::Foreign);
         };
-        let Some(_) = self.state.received().table(id) else {
+        let Some(_) = self.received().table(id) else {
             return Some(StepError::NotDefined);
         };
         None
@@ -305,14 +309,14 @@ impl Known {
     fn refusal_of_update(&self, update: &UpdateMsg) -> Option<StepError>
         ensures { result ≡ update_refusal self.now update.now (selected_table self.now.state.received) }
     {
-        let Some(table) = self.state.received().selected_table() else {
+        let Some(table) = self.received().selected_table() else {
             return Some(StepError::NoTable);
         };
         let _id = table.id();
         if !update.fits(table) {
             return Some(StepError::Foreign);
         }
-        match self.state.refusal(update.number(), update.name().lend()) {
+        match self.state().refusal(update.number(), update.name().lend()) {
             Some(refusal) => Some(StepError::from(refusal)),
             None => None,
         }
@@ -358,7 +362,7 @@ impl Known {
         ensures nothing { result ≡ effects.Nothing }
         ensures fits { fits self.now.state.received message.now ≡ true }
     {
-        let fits = message.fits(self.state.received());
+        let fits = message.fits(self.received());
         prove!(fits);
         Effect::Nothing
     }
@@ -398,7 +402,7 @@ impl Known {
         requires { IsTakenBy self.now (messages.Update update) }
         ensures { IsLegalEffect self.now (messages.Update update) result }
     {
-        match self.state.number(update.number()) {
+        match self.state().number(update.number()) {
             Some((table, number)) => {
                 let (_, _, field) = update.into_parts();
                 Effect::Update(ResolvedUpdate::of(table, number, field))
@@ -412,10 +416,7 @@ impl Known {
         ensures copy { IfOk result (λ copy. copy ≡ self.now) }
         ensures own { AreOwn self.now.roster self.now.state.received.tables }
     {
-        Ok(Known {
-            alloc,
-            roster: self.roster.copy(alloc)?,
-            state: self.state.copy(alloc)?,
-        })
+        let roster = self.roster.copy(alloc)?;
+        Known::from_parts(alloc, roster, self.state.copy(alloc)?)
     }
 }
