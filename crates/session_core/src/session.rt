@@ -59,12 +59,13 @@ impl Session {
         ensures { IfOk result (λ session. session ≡ connecting hello roster up_to_date) }
     {
         let course = Course::new(alloc, roster.copy(alloc)?, up_to_date)?;
+        let known = Known::fresh(alloc, roster)?;
         Ok(Session {
             alloc,
             machine: Machine {
                 stage: Stage::New(hello),
                 course,
-                known: Known::fresh(alloc, roster),
+                known,
                 fault: None,
                 confirmed: false,
             },
@@ -83,13 +84,14 @@ impl Session {
         ensures { IfOk result (λ session. session ≡ accepting own peers.items roster up_to_date) }
     {
         let course = Course::new(alloc, roster.copy(alloc)?, up_to_date)?;
+        let known = Known::fresh(alloc, roster)?;
         let peers = Items::new(peers);
         Ok(Session {
             alloc,
             machine: Machine {
                 stage: Stage::Hello(Greeter::Accepts { own, peers }, Vec::new(alloc)),
                 course,
-                known: Known::fresh(alloc, roster),
+                known,
                 fault: None,
                 confirmed: false,
             },
