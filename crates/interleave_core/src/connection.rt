@@ -105,7 +105,7 @@ impl Connection {
     {
         Ok(Connection {
             version,
-            known: Known::fresh(alloc, roster.copy(alloc)?),
+            known: Known::fresh(alloc, roster.copy(alloc)?)?,
             copied: Vec::new(alloc),
             taught: Vec::new(alloc),
             applied: 0,
