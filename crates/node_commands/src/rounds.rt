@@ -135,7 +135,7 @@ fn run<R: Threads + Wait + Sync, G: StartGate + Sync>(
     requires rounds { 1 ≤ asked.rounds }
     ensures { IfOk result (λ audit. (earlier : List AuditState) × (length (audit ∷ earlier) ≡ asked.rounds) × AreRounds asked.threads asked.tracks (audit ∷ earlier)) }
 {
-    let mut known = Known::fresh(alloc, roster(alloc)?);
+    let mut known = Known::fresh(alloc, roster(alloc)?)?;
     let mut audit = first_round(rt, alloc, gate, asked, &mut known)?;
     for before in 1..asked.rounds {
         audit = later_round(rt, alloc, gate, asked, before, audit, &mut known)?;
