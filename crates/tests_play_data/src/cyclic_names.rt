@@ -48,7 +48,7 @@ fn updates(alloc: Global) -> Option<Vec<Update>> {
 
 /// Makes the known state in which nothing is known of `st`.
 pub(crate) fn known(alloc: Global) -> Option<Known> {
-    Some(Known::fresh(alloc, alone(alloc, &ST)?))
+    Known::fresh(alloc, alone(alloc, &ST)?).ok()
 }
 
 /// Makes the batch of the updates.

@@ -144,7 +144,7 @@ fn stands_at(known: &Known, exchange: &Exchange) -> bool {
 fn leaves(alloc: Global, exchange: &Exchange, lengths: &[usize]) -> Option<bool> {
     let roster = alone(alloc, &exchange.table)?;
     let _sound = roster.tables();
-    let fresh = Known::fresh(alloc, roster.copy(alloc).ok()?);
+    let fresh = Known::fresh(alloc, roster.copy(alloc).ok()?).ok()?;
     let mut learner = Learner::new(alloc, roster).ok()?;
     let known = teach_batches(alloc, &mut learner, fresh, exchange.batches, lengths)?;
     Some(stands_at(&known, exchange) && has_rows(&learner, exchange.table.id, exchange.rows)?)

@@ -82,7 +82,7 @@ fn is_held<R: Threads + Wait + Clock + Sync>(
 
 /// Makes the state of a learner of `t1` that has received nothing.
 fn fresh(alloc: Global) -> Option<Known> {
-    Some(Known::fresh(alloc, alone(alloc, &T1)?))
+    Known::fresh(alloc, alone(alloc, &T1)?).ok()
 }
 
 /// Returns whether a worker with the second seat is held at `stage` while the table is changed from the first.
