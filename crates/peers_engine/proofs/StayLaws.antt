@@ -8,19 +8,22 @@ use Rattle.std.specs.Io.KnownBytes.{Appends, Consumes}
 use Rattle.table_types.specs.declared.update.Update.{Update}
 use Rattle.table_types.specs.declared.copies.CopyKind.{CopyKind}
 use Rattle.table_shards.specs.Receipts.{SeatState}
+use Rattle.known_state.specs.Known.{KnownState}
+use Rattle.teach_writer.specs.Lessons.{IsShortestLesson}
 use Rattle.session_core.specs.declared.action.Action.{Action}
 use Rattle.session_core.specs.declared.action.Action.TheVariants as actions
 use Rattle.session_core.specs.declared.event.Event.{Event}
+use Rattle.session_core.specs.declared.event.Event.TheVariants as events
 use Rattle.session_core.specs.declared.state.State.{State}
 use Rattle.session_core.specs.declared.state.State.TheVariants as states
 use Rattle.session_core.specs.Sessions.{state_of}
 use Rattle.session_core.specs.Standing.{StandingState, Stands, Ticks}
 use Rattle.peers_engine.specs.Acting.{asked}
-use Rattle.peers_engine.specs.Calls.{IsCopiedLate, IsLearnedLate, IsReopened}
+use Rattle.peers_engine.specs.Calls.{IsCopiedLate, IsLearnedLate, IsReopened, IsSettled, IsTaken}
 use Rattle.peers_engine.specs.Reading.{IsRead}
 use Rattle.peers_engine.specs.Staying.{AreReopened, IsPerformed, IsTold, IsToldIn, Performs, Responds, RespondsTo, StandingWorker, TakesStandingTurn, TakesTick, standing_kind, stays, without_request}
 use Rattle.peers_engine.specs.Turns.{first_event}
-use Rattle.peers_engine.proofs.AnswerLaws.{send_done}
+use Rattle.peers_engine.proofs.AnswerLaws.{ack_done, send_done, teach_done}
 use Rattle.peers_engine.proofs.StayCalmLaws.{tick_ends}
 
 -- ---- one action
@@ -53,6 +56,22 @@ pub batch_copied : (w : StandingWorker) (seat : SeatState) (action : Action) (ta
 batch_copied w seat action table kind asked_for known event is same copied =
     let at_kind = subst (λ (k : CopyKind). IsCopiedLate w.number w.now w.seat table k seat event) same copied in
     performed_as w seat action (actions.Copy table kind) (Some event) known known is ([], (refl, event, refl, at_kind), Appends-nil known)
+
+-- an acknowledgement that is passed on
+pub ack_passed_on : (w : StandingWorker) (seat : SeatState) (action : Action) (table number : ℕ) (known : Option (List ℕ)) (event : Event)
+    → action ≡ actions.Ack table number → IsTaken w.number w.seat table number seat event → HasPerformed w action (Some event) seat known known
+ack_passed_on w seat action table number known event is taken =
+    performed_as w seat action (actions.Ack table number) (Some event) known known is
+    (ack_done w.number w.now w.session.session.known w.seat seat (actions.Ack table number) table number known event refl taken)
+
+-- a lesson that is written
+pub lesson_written : (w : StandingWorker) (seat : SeatState) (action : Action) (k : KnownState) (batch : List Update) (old new : Option (List ℕ)) (event : Event)
+    → action ≡ actions.Teach batch → k ≡ w.session.session.known
+    → ((out : List ℕ) × (after : KnownState) × IsShortestLesson k batch out after × (event ≡ events.Written after) × IsSettled w.number w.seat batch seat × Appends old new out)
+    → HasPerformed w action (Some event) seat old new
+lesson_written w seat action k batch old new event is same taught =
+    performed_as w seat action (actions.Teach batch) (Some event) old new is
+    (teach_done w.number w.now k w.session.session.known w.seat seat (actions.Teach batch) batch old new event refl same taught)
 
 -- ---- its answer
 

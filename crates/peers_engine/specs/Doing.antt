@@ -40,13 +40,6 @@ Done n now k s (actions.Teach batch) out answer t =
 Done n now k s (actions.Part kind) out answer t = (out ≡ error_text kind) × (answer ≡ None) × (t ≡ s)
 Done n now k s actions.Close out answer t = (out ≡ []) × (answer ≡ None) × (t ≡ s)
 
--- an action that has an answer
-abbrev pub HasAnswer : Action → Type 0
-HasAnswer (actions.Ack table number) = Unit {0}
-HasAnswer (actions.Copy table kind) = Unit {0}
-HasAnswer (actions.Teach batch) = Unit {0}
-HasAnswer act = ⊥
-
 -- the error if a table refuses an action, or if memory runs out
 abbrev pub IsRefusal : EngineError → Type 0
 IsRefusal errors.Memory = Unit {0}

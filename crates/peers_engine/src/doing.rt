@@ -13,7 +13,7 @@ ghost use Rattle.peers_engine.specs.Acting.{Acts, Stops, asked, worker};
 ghost use Rattle.peers_engine.specs.Calls.{IsCopied, IsSettled};
 ghost use Rattle.teach_writer.specs.Lessons.{IsShortestLesson};
 ghost use Rattle.teach_writer.specs.Pieces.{bytes_left};
-ghost use Rattle.peers_engine.specs.Doing.{Fails, Falls, HasAnswer, IsRefusal, error_text};
+ghost use Rattle.peers_engine.specs.Doing.{Fails, Falls, IsRefusal, error_text};
 
 use crate::answering::give_answer;
 use crate::context::Context;
@@ -120,46 +120,6 @@ pub(crate) fn teach_batch<H: Wait, G: Gate, W: Write + Faults>(
     Ok(Event::Written(after))
 }
 
-/// Performs an action that has an answer, gives the session the answer, and appends what the session then asks for. Fails as
-/// `do_action` does.
-// An answer may hold a known state of 4 KiB. Here, so that calls for the other actions don't make room for one.
-fn do_with_answer<H: Wait, G: Gate, W: Write + Faults>(
-    context: &Context<H, G>,
-    session: &mut Session,
-    output: &mut W,
-    seat: &mut Seat,
-    action: Action,
-    given: &mut Vec<Action>,
-) -> Result<(), EngineError>
-    requires has_answer { HasAnswer action }
-    ensures seat { seat.new.number ≡ seat.old.number }
-    ensures done { OnOk result ((answers : List (Event × List Action)) × (out : List ℕ)
-        × Acts (worker session.old seat.old context.now.number context.now.moment) (action ∷ []) answers out (worker session.new seat.new context.now.number context.now.moment)
-        × (given.new.items ≡ given.old.items ++ asked answers)
-        × Appends (W.contents output.old) (W.contents output.new) out) }
-    ensures failed { IfErr result (λ e. (answers : List (Event × List Action)) × (out : List ℕ)
-        × Stops (worker session.old seat.old context.now.number context.now.moment) (action ∷ []) e answers out session.new seat.new
-        × Appends (W.contents output.old) (W.contents output.new) out) }
-    ensures unread { IfErr result (λ e. e ≢ errors.Read) }
-{
-    match action {
-        Action::Ack { table, number } => {
-            let answer = acknowledge(context, seat, table, number)?;
-            give_answer(session, context.moment, answer, given)
-        }
-        Action::Copy { table, kind } => {
-            let answer = copy_batch(context, seat, table, kind)?;
-            give_answer(session, context.moment, answer, given)
-        }
-        Action::Teach(batch) => {
-            let answer = teach_batch(context, session.known(), output, seat, &batch)?;
-            give_answer(session, context.moment, answer, given)
-        }
-        Action::Send(_) | Action::Learn(_) | Action::Reopen(_) | Action::Part(_) | Action::Close =>
-            unreachable!(),
-    }
-}
-
 /// Performs one action of a session, gives the session its answer, if it has one, and appends what the session then asks
 /// for.
 ///
@@ -192,8 +152,17 @@ pub(crate) fn do_action<H: Wait, G: Gate, W: Write + Faults>(
         Action::Reopen(table) => reopen(context, seat, table),
         Action::Part(kind) => part(output, kind),
         Action::Close => Ok(()),
-        Action::Ack { .. } | Action::Copy { .. } | Action::Teach(_) => {
-            do_with_answer(context, session, output, seat, action, given)
+        Action::Ack { table, number } => {
+            let answer = acknowledge(context, seat, table, number)?;
+            give_answer(session, context.moment, answer, given)
+        }
+        Action::Copy { table, kind } => {
+            let answer = copy_batch(context, seat, table, kind)?;
+            give_answer(session, context.moment, answer, given)
+        }
+        Action::Teach(batch) => {
+            let answer = teach_batch(context, session.known(), output, seat, &batch)?;
+            give_answer(session, context.moment, answer, given)
         }
     }
 }

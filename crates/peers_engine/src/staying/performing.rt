@@ -8,8 +8,8 @@ ghost use Rattle.session_core.specs.declared.state.State.TheVariants as states;
 ghost use Rattle.session_core.specs.Sessions.{state_of};
 ghost use Rattle.peers_engine.specs.declared.errors.EngineError.TheVariants as errors;
 ghost use Rattle.peers_engine.specs.Acting.{asked};
-ghost use Rattle.peers_engine.specs.Doing.{Falls, HasAnswer};
-ghost use Rattle.peers_engine.specs.Staying.{DoesNotStay, IsFailed, IsPerformed, IsTold, Performs, PerformsUntil, standing_kind, standing_worker, without_request};
+ghost use Rattle.peers_engine.specs.Doing.{Falls};
+ghost use Rattle.peers_engine.specs.Staying.{DoesNotStay, IsTold, Performs, PerformsUntil, standing_kind, standing_worker, without_request};
 
 use crate::context::Context;
 use crate::doing::{part, send, teach_batch};
@@ -60,41 +60,6 @@ fn send_bytes<W: Write + Faults>(
     send(output, bytes)
 }
 
-/// Performs an action of a session that stays that has an answer, and returns the answer.
-fn answer_of<H: Wait, G: Gate, W: Write + Faults>(
-    context: &Context<H, G>,
-    session: &Standing,
-    output: &mut W,
-    seat: &mut Seat,
-    tally: &mut Tally,
-    action: Action,
-) -> Result<Event, EngineError>
-    requires has_answer { HasAnswer action }
-    ensures seat { seat.new.number ≡ seat.old.number }
-    ensures done { IfOk result (λ answer. (out : List ℕ)
-        × IsPerformed (standing_worker session.now seat.old context.now.number context.now.moment) action out (Some answer) seat.new
-        × Appends (W.contents output.old) (W.contents output.new) out) }
-    ensures failed { IfErr result (λ e. (out : List ℕ)
-        × IsFailed (standing_worker session.now seat.old context.now.number context.now.moment) action e out seat.new
-        × Appends (W.contents output.old) (W.contents output.new) out) }
-    ensures unread { IfErr result (λ e. e ≢ errors.Read) }
-{
-    match action {
-        Action::Ack { table, number } => {
-            tally.note_ack(table, number);
-            acknowledge(context, seat, table, number)
-        }
-        Action::Copy { table, kind } => copy_late(context, seat, table, standing_kind(kind)),
-        Action::Teach(batch) => {
-            let answer = teach_batch(context, session.known(), output, seat, &batch)?;
-            tally.count_taught(&batch);
-            Ok(answer)
-        }
-        Action::Send(_) | Action::Learn(_) | Action::Reopen(_) | Action::Part(_) | Action::Close =>
-            unreachable!(),
-    }
-}
-
 /// Returns whether the session is over.
 pub(crate) fn is_over(session: &Standing) -> bool
     ensures { (result ≡ true) ↔ (state_of session.now.session.phase ≡ states.Ended) }
@@ -122,33 +87,6 @@ fn tell(
         Ok(()) => Ok(()),
         Err(_) => Err(EngineError::Memory),
     }
-}
-
-/// Performs an action of a session that stays that has an answer, gives the session the answer, and appends what the session
-/// then asks for.
-// An answer may hold a known state of 4 KiB. Here, so that calls for the other actions don't make room for one.
-fn perform_with_answer<H: Wait, G: Gate, W: Write + Faults>(
-    context: &Context<H, G>,
-    session: &mut Standing,
-    output: &mut W,
-    seat: &mut Seat,
-    tally: &mut Tally,
-    action: Action,
-    given: &mut Vec<Action>,
-) -> Result<(), EngineError>
-    requires has_answer { HasAnswer action }
-    ensures seat { seat.new.number ≡ seat.old.number }
-    ensures done { OnOk result ((answers : List (Event × List Action)) × (out : List ℕ)
-        × Performs (standing_worker session.old seat.old context.now.number context.now.moment) (action ∷ []) answers out (standing_worker session.new seat.new context.now.number context.now.moment)
-        × (given.new.items ≡ given.old.items ++ asked answers)
-        × Appends (W.contents output.old) (W.contents output.new) out) }
-    ensures failed { IfErr result (λ e. (answers : List (Event × List Action)) × (out : List ℕ)
-        × PerformsUntil (standing_worker session.old seat.old context.now.number context.now.moment) (action ∷ []) e answers out session.new.session seat.new
-        × Appends (W.contents output.old) (W.contents output.new) out) }
-    ensures unread { IfErr result (λ e. e ≢ errors.Read) }
-{
-    let answer = answer_of(context, session, output, seat, tally, action)?;
-    tell(session, context.moment, answer, given)
 }
 
 /// Performs one action of a session that stays, gives the session its answer, if it has one, and appends what the session then
@@ -183,8 +121,19 @@ fn perform<H: Wait, G: Gate, W: Write + Faults>(
         Action::Reopen(table) => reopen(context, seat, table),
         Action::Part(kind) => part(output, kind),
         Action::Close => Ok(()),
-        Action::Ack { .. } | Action::Copy { .. } | Action::Teach(_) => {
-            perform_with_answer(context, session, output, seat, tally, action, given)
+        Action::Ack { table, number } => {
+            tally.note_ack(table, number);
+            let answer = acknowledge(context, seat, table, number)?;
+            tell(session, context.moment, answer, given)
+        }
+        Action::Copy { table, kind } => {
+            let answer = copy_late(context, seat, table, standing_kind(kind))?;
+            tell(session, context.moment, answer, given)
+        }
+        Action::Teach(batch) => {
+            let answer = teach_batch(context, session.known(), output, seat, &batch)?;
+            tally.count_taught(&batch);
+            tell(session, context.moment, answer, given)
         }
     }
 }

@@ -2,9 +2,9 @@ use Rattle.std.proofs.Common.{None, refl}
 use Rattle.std.proofs.lemmas.Result.{IfErr-weaker, err_from_is_err_and, on_ok_weaker}
 use Rattle.session_core.specs.declared.action.Action.TheVariants as actions
 use Rattle.peers_engine.specs.Staying.{standing_worker}
-use Rattle.peers_engine.proofs.AnswerLaws.{close_done, part_done, part_falls, reopen_done}
-use Rattle.peers_engine.proofs.StayLaws.{bytes_sent, performed_as, row_learned, silently_performed}
-use Rattle.peers_engine.proofs.UntilLaws.{bytes_fall, call_fails, failed_now, fails_at_once, table_fails}
+use Rattle.peers_engine.proofs.AnswerLaws.{close_done, part_done, part_falls, reopen_done, teach_fails}
+use Rattle.peers_engine.proofs.StayLaws.{ack_passed_on, batch_copied, bytes_sent, lesson_written, performed_and_told, performed_as, row_learned, silently_performed}
+use Rattle.peers_engine.proofs.UntilLaws.{bytes_fall, call_fails, failed_now, fails_at_once, is_untold, table_fails}
 use Rattle.peers_engine.proofs.staying.performing.perform.Goals as goal
 
 pub returns-in-Send-clause-done : goal.returns-in-Send-clause-done
@@ -74,3 +74,67 @@ returns-in-Close-clause-done g c =
     silently_performed (standing_worker c.args.session.now c.args.seat.now c.args.context.now.number c.args.context.now.moment) c.args.seat.now c.args.action c.args.given.now.items known known
     (performed_as (standing_worker c.args.session.now c.args.seat.now c.args.context.now.number c.args.context.now.moment) c.args.seat.now c.args.action actions.Close None known known c.in-Close.is
     (close_done c.args.context.now.number c.args.context.now.moment c.args.session.now.session.known c.args.seat.now actions.Close known refl))
+
+pub returns-in_err-answer-in-Ack-clause-failed : goal.returns-in_err-answer-in-Ack-clause-failed
+returns-in_err-answer-in-Ack-clause-failed g c =
+    let p = err_from_is_err_and c.from_residual-in_err-answer-in-Ack.result c.from_residual-in_err-answer-in-Ack.ensures.1 in
+    rw (p.1, p.2)
+    (fails_at_once (standing_worker c.args.session.now c.args.seat.now c.args.context.now.number c.args.context.now.moment) c.acknowledge.new.seat c.args.action c.in_err-answer-in-Ack.field-0.0 (g.W.Write.contents c.args.output.now) (g.W.Write.contents c.args.output.now)
+    (table_fails (standing_worker c.args.session.now c.args.seat.now c.args.context.now.number c.args.context.now.moment) c.acknowledge.new.seat c.args.action (actions.Ack c.in-Ack.table c.in-Ack.number) c.in_err-answer-in-Ack.field-0.0 (g.W.Write.contents c.args.output.now) c.in-Ack.is tt c.in_err-answer-in-Ack.ensures.refused c.in_err-answer-in-Ack.ensures.stays))
+
+pub returns-in_ok-answer-in-Ack-clause-done : goal.returns-in_ok-answer-in-Ack-clause-done
+returns-in_ok-answer-in-Ack-clause-done g c =
+    on_ok_weaker c.tell.result
+    (λ told. performed_and_told (standing_worker c.args.session.now c.args.seat.now c.args.context.now.number c.args.context.now.moment) c.tell.new.session c.acknowledge.new.seat c.args.action c.in_ok-answer-in-Ack.answer c.args.given.now.items c.tell.new.given.items (g.W.Write.contents c.args.output.now) (g.W.Write.contents c.args.output.now)
+    (ack_passed_on (standing_worker c.args.session.now c.args.seat.now c.args.context.now.number c.args.context.now.moment) c.acknowledge.new.seat c.args.action c.in-Ack.table c.in-Ack.number (g.W.Write.contents c.args.output.now) c.in_ok-answer-in-Ack.answer c.in-Ack.is c.in_ok-answer-in-Ack.ensures.answer) told)
+    c.tell.ensures.told
+
+pub returns-in_ok-answer-in-Ack-clause-failed : goal.returns-in_ok-answer-in-Ack-clause-failed
+returns-in_ok-answer-in-Ack-clause-failed g c =
+    IfErr-weaker c.tell.result _ _
+    (λ error stuck. is_untold (standing_worker c.args.session.now c.args.seat.now c.args.context.now.number c.args.context.now.moment) c.tell.new.session c.acknowledge.new.seat c.args.action c.in_ok-answer-in-Ack.answer error (g.W.Write.contents c.args.output.now) (g.W.Write.contents c.args.output.now)
+    (ack_passed_on (standing_worker c.args.session.now c.args.seat.now c.args.context.now.number c.args.context.now.moment) c.acknowledge.new.seat c.args.action c.in-Ack.table c.in-Ack.number (g.W.Write.contents c.args.output.now) c.in_ok-answer-in-Ack.answer c.in-Ack.is c.in_ok-answer-in-Ack.ensures.answer) stuck)
+    c.tell.ensures.stuck
+
+pub returns-in_err-answer-in-Copy-clause-failed : goal.returns-in_err-answer-in-Copy-clause-failed
+returns-in_err-answer-in-Copy-clause-failed g c =
+    let p = err_from_is_err_and c.from_residual-in_err-answer-in-Copy.result c.from_residual-in_err-answer-in-Copy.ensures.1 in
+    rw (p.1, p.2)
+    (fails_at_once (standing_worker c.args.session.now c.args.seat.now c.args.context.now.number c.args.context.now.moment) c.copy_late.new.seat c.args.action c.in_err-answer-in-Copy.field-0.0 (g.W.Write.contents c.args.output.now) (g.W.Write.contents c.args.output.now)
+    (table_fails (standing_worker c.args.session.now c.args.seat.now c.args.context.now.number c.args.context.now.moment) c.copy_late.new.seat c.args.action (actions.Copy c.in-Copy.table c.in-Copy.kind) c.in_err-answer-in-Copy.field-0.0 (g.W.Write.contents c.args.output.now) c.in-Copy.is tt c.in_err-answer-in-Copy.ensures.refused c.in_err-answer-in-Copy.ensures.stays))
+
+pub returns-in_ok-answer-in-Copy-clause-done : goal.returns-in_ok-answer-in-Copy-clause-done
+returns-in_ok-answer-in-Copy-clause-done g c =
+    on_ok_weaker c.tell-in-Copy.result
+    (λ told. performed_and_told (standing_worker c.args.session.now c.args.seat.now c.args.context.now.number c.args.context.now.moment) c.tell-in-Copy.new.session c.copy_late.new.seat c.args.action c.in_ok-answer-in-Copy.answer c.args.given.now.items c.tell-in-Copy.new.given.items (g.W.Write.contents c.args.output.now) (g.W.Write.contents c.args.output.now)
+    (batch_copied (standing_worker c.args.session.now c.args.seat.now c.args.context.now.number c.args.context.now.moment) c.copy_late.new.seat c.args.action c.in-Copy.table c.in-Copy.kind c.standing_kind.result (g.W.Write.contents c.args.output.now) c.in_ok-answer-in-Copy.answer c.in-Copy.is c.standing_kind.ensures c.in_ok-answer-in-Copy.ensures.answer) told)
+    c.tell-in-Copy.ensures.told
+
+pub returns-in_ok-answer-in-Copy-clause-failed : goal.returns-in_ok-answer-in-Copy-clause-failed
+returns-in_ok-answer-in-Copy-clause-failed g c =
+    IfErr-weaker c.tell-in-Copy.result _ _
+    (λ error stuck. is_untold (standing_worker c.args.session.now c.args.seat.now c.args.context.now.number c.args.context.now.moment) c.tell-in-Copy.new.session c.copy_late.new.seat c.args.action c.in_ok-answer-in-Copy.answer error (g.W.Write.contents c.args.output.now) (g.W.Write.contents c.args.output.now)
+    (batch_copied (standing_worker c.args.session.now c.args.seat.now c.args.context.now.number c.args.context.now.moment) c.copy_late.new.seat c.args.action c.in-Copy.table c.in-Copy.kind c.standing_kind.result (g.W.Write.contents c.args.output.now) c.in_ok-answer-in-Copy.answer c.in-Copy.is c.standing_kind.ensures c.in_ok-answer-in-Copy.ensures.answer) stuck)
+    c.tell-in-Copy.ensures.stuck
+
+pub returns-in_err-answer-in-Teach-clause-failed : goal.returns-in_err-answer-in-Teach-clause-failed
+returns-in_err-answer-in-Teach-clause-failed g c =
+    let p = err_from_is_err_and c.from_residual-in_err-answer-in-Teach.result c.from_residual-in_err-answer-in-Teach.ensures.1 in
+    rw (p.1, p.2)
+    (fails_at_once (standing_worker c.args.session.now c.args.seat.now c.args.context.now.number c.args.context.now.moment) c.teach_batch.new.seat c.args.action c.in_err-answer-in-Teach.field-0.0 (g.W.Write.contents c.args.output.now) (g.W.Write.contents c.teach_batch.new.output)
+    (failed_now (standing_worker c.args.session.now c.args.seat.now c.args.context.now.number c.args.context.now.moment) c.teach_batch.new.seat c.args.action (actions.Teach c.in-Teach.batch) c.in_err-answer-in-Teach.field-0.0 (g.W.Write.contents c.args.output.now) (g.W.Write.contents c.teach_batch.new.output) c.in-Teach.is
+    (teach_fails c.args.context.now.number c.args.context.now.moment c.known.result.now c.args.session.now.session.known c.args.seat.now c.teach_batch.new.seat (actions.Teach c.in-Teach.batch) c.in-Teach.batch (g.W.Write.contents c.args.output.now) (g.W.Write.contents c.teach_batch.new.output) c.in_err-answer-in-Teach.field-0.0 refl c.known.ensures c.in_err-answer-in-Teach.ensures.failed)))
+
+pub returns-in_ok-answer-in-Teach-clause-done : goal.returns-in_ok-answer-in-Teach-clause-done
+returns-in_ok-answer-in-Teach-clause-done g c =
+    on_ok_weaker c.tell-in-Teach.result
+    (λ told. performed_and_told (standing_worker c.args.session.now c.args.seat.now c.args.context.now.number c.args.context.now.moment) c.tell-in-Teach.new.session c.teach_batch.new.seat c.args.action c.in_ok-answer-in-Teach.answer c.args.given.now.items c.tell-in-Teach.new.given.items (g.W.Write.contents c.args.output.now) (g.W.Write.contents c.teach_batch.new.output)
+    (lesson_written (standing_worker c.args.session.now c.args.seat.now c.args.context.now.number c.args.context.now.moment) c.teach_batch.new.seat c.args.action c.known.result.now c.in-Teach.batch (g.W.Write.contents c.args.output.now) (g.W.Write.contents c.teach_batch.new.output) c.in_ok-answer-in-Teach.answer c.in-Teach.is c.known.ensures c.in_ok-answer-in-Teach.ensures.taught) told)
+    c.tell-in-Teach.ensures.told
+
+pub returns-in_ok-answer-in-Teach-clause-failed : goal.returns-in_ok-answer-in-Teach-clause-failed
+returns-in_ok-answer-in-Teach-clause-failed g c =
+    IfErr-weaker c.tell-in-Teach.result _ _
+    (λ error stuck. is_untold (standing_worker c.args.session.now c.args.seat.now c.args.context.now.number c.args.context.now.moment) c.tell-in-Teach.new.session c.teach_batch.new.seat c.args.action c.in_ok-answer-in-Teach.answer error (g.W.Write.contents c.args.output.now) (g.W.Write.contents c.teach_batch.new.output)
+    (lesson_written (standing_worker c.args.session.now c.args.seat.now c.args.context.now.number c.args.context.now.moment) c.teach_batch.new.seat c.args.action c.known.result.now c.in-Teach.batch (g.W.Write.contents c.args.output.now) (g.W.Write.contents c.teach_batch.new.output) c.in_ok-answer-in-Teach.answer c.in-Teach.is c.known.ensures c.in_ok-answer-in-Teach.ensures.taught) stuck)
+    c.tell-in-Teach.ensures.stuck
