@@ -1,7 +1,7 @@
 //! Rounds after an audit, and slides in a round.
 
 use crate::round::Round;
-use crate::seats::tracked;
+use crate::seats::{fresh, tracked};
 use std::alloc::Global;
 use std::convert::Infallible;
 use std::sync::Wait;
@@ -133,6 +133,39 @@ fn renumbered<R: Wait>(rt: &R, round: &mut Round) -> Option<Result<(), ShardErro
     let (seat, done) = held::renumber(&mut lock.lock(rt), seat, 1);
     round.seat = Some(seat);
     Some(done)
+}
+
+/// Gives the rows of `t1` new numbers. Returns whether an audit of the round notices.
+fn notices_a_renewal<R: Wait>(rt: &R, alloc: Global, mut round: Round) -> Option<bool> {
+    let renewed = renumbered(rt, &mut round)? == Ok(());
+    let fault = AuditError::Mismatch { table: 1, seat: 0 };
+    Some(renewed && round.audited(alloc) == Some(Err(fault)))
+}
+
+/// Begins another round of an audited `t1` with a renewal, and tracks key 7. Returns whether the audit notices the renewal, which
+/// dropped no event of the round.
+fn notices_a_first_renewal<R: Wait>(rt: &R, alloc: Global, audit: Audit) -> Option<bool> {
+    let (shards, seats) = audit.next_round(alloc).ok()?;
+    let mut round = with_seat(shards, seats);
+    let renewed = renumbered(rt, &mut round)? == Ok(());
+    let counted = round.track(rt, 1, 7) == Some(4) && round.receipts(1) == Some(1);
+    let fault = AuditError::Mismatch { table: 1, seat: 0 };
+    Some(renewed && counted && round.audited(alloc) == Some(Err(fault)))
+}
+
+/// Returns whether an audit notices a renewal with which another round begins, before an event of it.
+pub fn is_renewed_at_first<R: Wait>(rt: &R, alloc: Global) -> Option<bool> {
+    notices_a_first_renewal(rt, alloc, audited(rt, alloc)?)
+}
+
+/// Returns whether an audit notices a renewal of a round without an event.
+pub fn is_renewed_alone<R: Wait>(rt: &R, alloc: Global) -> Option<bool> {
+    notices_a_renewal(rt, alloc, fresh(alloc)?)
+}
+
+/// Returns whether an audit notices a renewal after the events of a round.
+pub fn is_renewed_later<R: Wait>(rt: &R, alloc: Global) -> Option<bool> {
+    notices_a_renewal(rt, alloc, tracked(rt, alloc)?)
 }
 
 /// Returns whether `t1` begins anew from a seat, but not while a batch is out, slides also then, and gets new numbers, but not while

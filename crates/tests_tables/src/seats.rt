@@ -4,7 +4,8 @@ use tests_play_tables::answers::keeps_answers;
 use tests_play_tables::audits::{audits_many_receipts, misses_one_of_two, wants_its_own_seats};
 use tests_play_tables::locks::are_apart;
 use tests_play_tables::next_rounds::{
-    begins_another, comes_back, is_missed, is_noticed, waits_for_a_batch,
+    begins_another, comes_back, is_missed, is_noticed, is_renewed_alone, is_renewed_at_first,
+    is_renewed_later, waits_for_a_batch,
 };
 use tests_play_tables::seats::{
     compares_receipts, is_ahead_of_others, leaves_receipts, looks_ahead, refuses_a_text,
@@ -73,6 +74,21 @@ fn no_other_round_begins_while_a_batch_is_out(rt: HostRuntime) {
 #[test]
 fn a_slide_in_a_round_is_noticed(rt: HostRuntime) {
     assert!(rt; is_noticed(&rt, rt.alloc()) == Some(true));
+}
+
+#[test]
+fn a_renewal_with_which_a_round_begins_is_noticed(rt: HostRuntime) {
+    assert!(rt; is_renewed_at_first(&rt, rt.alloc()) == Some(true));
+}
+
+#[test]
+fn a_renewal_without_an_event_is_noticed(rt: HostRuntime) {
+    assert!(rt; is_renewed_alone(&rt, rt.alloc()) == Some(true));
+}
+
+#[test]
+fn a_renewal_in_mid_round_is_noticed(rt: HostRuntime) {
+    assert!(rt; is_renewed_later(&rt, rt.alloc()) == Some(true));
 }
 
 #[test]
