@@ -1,6 +1,6 @@
 //! What a batch requests from the dictionary, and at which costs.
 
-ghost use Rattle.std.specs.Prelude.{◌≡◌, ◌≤◌, ◌+◌, ◌*◌, ◌++◌, true, length, IfOk, OnOk};
+ghost use Rattle.std.specs.Prelude.{◌≡◌, ◌≢◌, ◌≤◌, ◌+◌, ◌*◌, ◌++◌, [], true, length, IfErr, IfOk, OnOk};
 ghost use Rattle.table_types.specs.Updates.{is_optional_word};
 ghost use Rattle.table_types.specs.Batches.{IsBatchFor};
 ghost use Rattle.known_state.specs.Cost.{full, knowledge_after, knowledge_of, number_sent, selection_cost, written_cost};
@@ -118,7 +118,7 @@ impl Known {
     }
 
     /// Returns what the batch requests from the dictionary, as `costs` does, and the size of its lesson with every name
-    /// written. Goes through the batch once.
+    /// written. Goes through the batch once. Allocates only if the batch has an update.
     ///
     /// The batch was made for the roster of the known state.
     pub fn costing(&self, alloc: Global, batch: &Batch) -> Result<Costing, Memory>
@@ -127,6 +127,7 @@ impl Known {
         ensures full { IfOk result (λ costing. costing.full ≡ full self.now.roster self.now.state batch.now) }
         ensures within { IfOk result (λ costing. costing.full ≤ 49164 * length batch.now) }
         ensures few { IfOk result (λ costing. length costing.requests.items ≤ length batch.now) }
+        ensures memory { IfErr result (λ refused. batch.now ≢ []) }
     {
         let updates = batch.updates();
         let mut knowledge = KnowledgeSoFar::of(alloc, self);

@@ -12,10 +12,10 @@ pub of_answer : {X E : Type 0} (result : Result X E) (p q : X → Type 0) → ((
 of_answer (Ok x) p q implied is = implied x is
 of_answer (Err e) p q implied is = tt
 
--- what holds of every result holds of out of memory
-pub of_error : {X E : Type 0} (result : Result X E) (p : Type 0) → p → IfErr result (λ e. p)
-of_error (Ok x) p is = tt
-of_error (Err e) p is = is
+-- what follows from out of memory
+pub of_memory : {X E : Type 0} (result : Result X E) (p q : Type 0) → (p → q) → IfErr result (λ e. p) → IfErr result (λ e. q)
+of_memory (Ok x) p q implied is = tt
+of_memory (Err e) p q implied is = implied is
 
 -- a price is above 2^32 if not all are at most that
 pub some_above : (prices : List ℕ) → (AllByRecursion (λ price. price ≤ 2 ^ 32) prices → ⊥) → list_any (λ price. nat_lt (2 ^ 32) price) prices ≡ true

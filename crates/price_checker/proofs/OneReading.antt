@@ -1,5 +1,5 @@
 -- A stream can be read in only one way.
-use Rattle.std.proofs.Common.{◌≡◌, ℕ, List, [], ◌∷◌, ◌++◌, length, Option, Some, None, Result, Ok, Err, refl, sym, ap, subst, ◌∙◌, append_assoc}
+use Rattle.std.proofs.Common.{◌≡◌, ◌≢◌, ℕ, List, [], ◌∷◌, ◌++◌, length, Option, Some, None, Result, Ok, Err, refl, sym, ap, subst, ◌∙◌, inr, append_assoc}
 use Rattle.std.proofs.lemmas.List.{append-nil}
 use Rattle.table_types.specs.declared.update.Update.{Update}
 use Rattle.table_types.specs.Tables.{Definition}
@@ -19,7 +19,7 @@ use Rattle.known_state.proofs.RefusedIsNoStep.{no_step}
 use Rattle.known_state.proofs.StepIsDeterministic.{one_step}
 use Rattle.price_checker.specs.declared.verdict.Illegal.{Illegal}
 use Rattle.price_checker.specs.declared.verdict.Illegal.TheVariants as illegals
-use Rattle.price_checker.specs.Verdicts.{Carries, IsIllegalHere, IsIllegalAt}
+use Rattle.price_checker.specs.Verdicts.{BeginsUnrefused, Carries, IsIllegalHere, IsIllegalAt}
 
 never_err : (m : Message) (rest : List ℕ) (breach : Breach) → found m rest ≡ Err breach → ⊥
 never_err m rest breach e = cc
@@ -107,6 +107,12 @@ stops_or_carries k stream us illegal place own (ms, carried, mid, rest, split, a
     nothing_is_legal s left illegals.Cut none is = is.0 none
     nothing_is_legal s left (illegals.Decode breach) none is = never_both breach (sym is ∙ ap (message_at s.received) none ∙ nothing_there s)
     nothing_is_legal s left (illegals.Step error) none is = never_none is.0 is.1 (sym is.2 ∙ ap (message_at s.received) none ∙ nothing_there s)
+
+-- a stream that carries an update begins with a message that isn't refused
+pub carries_unrefused : (k : KnownState) (stream : List ℕ) (us : List Update) → AreOwn k.roster k.state.received.tables → Carries k stream us → us ≢ [] → BeginsUnrefused k stream
+carries_unrefused k stream us own ([], e, spells, (_, (none, here))) some = absurd (some none)
+carries_unrefused k stream us own (m ∷ ms, e, spells, ((is_own, are_own), (first, rest, mid, joined, step, later))) some =
+    (m, stream_of ms, at_front k.state mid m first (stream_of ms) stream spells step, inr (λ error refuses. no_step k m error first mid own refuses is_own step))
 
 -- ---- only one cause
 

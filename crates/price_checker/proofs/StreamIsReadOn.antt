@@ -17,10 +17,12 @@ use Rattle.peers_msg.specs.Spelling.{spelled, stream_of}
 use Rattle.peers_msg.proofs.FieldCanonical.{IsBytes-drop}
 use Rattle.peers_msg.proofs.MessageCanonical.{message_takes}
 use Rattle.known_state.specs.State.{State, Step, Teaches, IsOwn, Legal}
-use Rattle.known_state.specs.Known.{KnownState}
+use Rattle.known_state.specs.Known.{KnownState, Refuses}
+use Rattle.known_state.specs.declared.known.StepError.{StepError}
 use Rattle.price_checker.specs.declared.comparison.Comparison.{Comparison}
 use Rattle.price_checker.specs.declared.reading.Next.TheVariants as nexts
-use Rattle.price_checker.specs.Verdicts.{BeginsWithMessage}
+use Rattle.price_checker.specs.declared.verdict.Illegal.TheVariants as illegals
+use Rattle.price_checker.specs.Verdicts.{IsIllegalAt}
 use Rattle.price_checker.specs.Readings.{Compares, IsNext}
 
 -- a legal list extended by a legal message
@@ -82,7 +84,10 @@ read-more k before after us stream place used comparison compared good (ms, carr
     (ms ++ m ∷ [], carried ++ one, more.0, more.1, more.2, legal-more k.roster k.state before.state after.state ms m carried one legal is_own step, stays ∙ same, goes carried one after.state compares step)
 
 -- if a message is found at the front of a stream, the stream begins with it
-pub front_begins : (k : KnownState) (stream : List ℕ) (received : Received) (found : Result (Option (MessageRef × ℕ)) Breach) (x : MessageRef × ℕ) → received ≡ k.state.received → IsFrontOf received stream found → found ≡ Ok (Some x) → BeginsWithMessage k stream
+pub front_begins : (k : KnownState) (stream : List ℕ) (received : Received) (found : Result (Option (MessageRef × ℕ)) Breach) (x : MessageRef × ℕ) → received ≡ k.state.received → IsFrontOf received stream found → found ≡ Ok (Some x) → message_at k.state.received stream ≡ Ok (Some (owned_message x.0, drop x.1 stream))
 front_begins k stream received found x same front is =
-    let at : IsFrontOf k.state.received stream (Ok (Some x)) = subst (λ (h : Received). IsFrontOf h stream (Ok (Some x))) same (subst (λ (r : Result (Option (MessageRef × ℕ)) Breach). IsFrontOf received stream r) is front) in
-    (owned_message x.0, drop x.1 stream, at)
+    subst (λ (h : Received). IsFrontOf h stream (Ok (Some x))) same (subst (λ (r : Result (Option (MessageRef × ℕ)) Breach). IsFrontOf received stream r) is front)
+
+-- a stream whose first message is refused isn't legal from its first byte on
+pub refused_at_once : (k : KnownState) (stream rest : List ℕ) (m : Message) (error : StepError) → message_at k.state.received stream ≡ Ok (Some (m, rest)) → Refuses k m error → IsIllegalAt k stream (illegals.Step error) 0
+refused_at_once k stream rest m error at refuses = ([], [], k.state, stream, refl, refl, (tt, (refl, refl)), (m, rest, at, refuses))

@@ -1,15 +1,17 @@
 -- The verdict on a stream and prices: whether the stream teaches the batch, and whether the prices prove that no other
 -- stream that does is shorter (profile).
-use Rattle.std.specs.Prelude.{◌≡◌, ◌≢◌, ◌≤◌, ℕ, ◌+◌, ◌-◌, ◌^◌, nat_lt, true, List, [], ◌∷◌, ◌++◌, length, Some, None, Ok, Err, codes}
+use Rattle.std.specs.Prelude.{◌≡◌, ◌≢◌, ◌≤◌, ◌⊎◌, ℕ, ◌+◌, ◌-◌, ◌^◌, nat_lt, true, List, [], ◌∷◌, ◌++◌, length, Some, None, Ok, Err, codes}
 use Rattle.std.specs.List.{AllByRecursion, list_any}
 use Rattle.table_types.specs.declared.update.Update.{Update}
 use Rattle.table_types.specs.SlotIds.{slot_count}
+use Rattle.table_types.specs.Tables.{Definition}
 use Rattle.peers_msg.specs.declared.message.Message.{Message}
+use Rattle.peers_msg.specs.declared.message.Message.TheVariants as messages
 use Rattle.peers_msg.specs.Breaches.{breach_name}
 use Rattle.peers_msg.specs.Reading.{message_at}
 use Rattle.peers_msg.specs.Spelling.{stream_of}
 use Rattle.known_state.specs.State.{State, Legal}
-use Rattle.known_state.specs.Known.{KnownState, Refuses, step_error_name}
+use Rattle.known_state.specs.Known.{KnownState, IsTakenBy, Refuses, step_error_name}
 use Rattle.known_state.specs.Cost.{full, knowledge_of}
 use Rattle.known_state.specs.Requests.{Asked, requests_of}
 use Rattle.known_state.specs.Plans.{all_links, bound, names_in}
@@ -32,9 +34,14 @@ IsIllegalHere k rest (illegals.Decode breach) = message_at k.state.received rest
 IsIllegalHere k rest (illegals.Step error) =
     (m : Message) × (after : List ℕ) × (message_at k.state.received rest ≡ Ok (Some (m, after))) × Refuses k m error
 
--- A whole message is at the front of the stream.
-abbrev pub BeginsWithMessage : KnownState → List ℕ → Type 0
-BeginsWithMessage k stream = (m : Message) × (rest : List ℕ) × (message_at k.state.received stream ≡ Ok (Some (m, rest)))
+-- the message defines a table
+abbrev pub IsDefinition : Message → Type 0
+IsDefinition m = (d : Definition) × (m ≡ messages.Define d)
+
+-- A whole message is at the front of the stream: a definition, or a message that the known state doesn't refuse.
+abbrev pub BeginsUnrefused : KnownState → List ℕ → Type 0
+BeginsUnrefused k stream =
+    (m : Message) × (rest : List ℕ) × (message_at k.state.received stream ≡ Ok (Some (m, rest))) × (IsDefinition m ⊎ IsTakenBy k m)
 
 -- The stream is legal up to this place, where a message ends and no legal message follows.
 abbrev pub IsIllegalAt : KnownState → List ℕ → Illegal → ℕ → Type 0

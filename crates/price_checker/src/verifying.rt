@@ -1,6 +1,6 @@
 //! The verdict on a stream and its prices.
 
-ghost use Rattle.std.specs.Prelude.{◌≡◌, ◌≢◌, ◌≤◌, ◌^◌, ◌↔◌, ◌⊎◌, ℕ, List, length, IfErr, IfOk};
+ghost use Rattle.std.specs.Prelude.{◌≡◌, ◌≢◌, ◌≤◌, ◌^◌, ◌↔◌, ◌⊎◌, ℕ, List, [], length, IfErr, IfOk};
 ghost use Rattle.std.specs.List.{AllByRecursion};
 ghost use Rattle.table_types.specs.Batches.{IsBatchFor};
 ghost use Rattle.table_types.specs.declared.update.Update.{Update};
@@ -14,7 +14,7 @@ ghost use Rattle.known_state.specs.Shortest.{Shortest};
 ghost use Rattle.price_checker.specs.declared.verdict.Verdict.{Verdict};
 ghost use Rattle.price_checker.specs.declared.verdict.Verdict.TheVariants as verdicts;
 ghost use Rattle.price_checker.specs.NamedUpdates.{named_count};
-ghost use Rattle.price_checker.specs.Verdicts.{requests, ArePrices, BeginsWithMessage, Carries, Says, Show, IsNotLegal, IsNotCarried};
+ghost use Rattle.price_checker.specs.Verdicts.{requests, BeginsUnrefused, Carries, Says, Show, IsNotLegal, IsNotCarried};
 
 use crate::bound::bound;
 use crate::comparison::Comparison;
@@ -72,8 +72,8 @@ fn shown_by_bound(slots: &Slots, costing: &Costing, size: usize, prices: &[u64])
     }
 }
 
-/// Returns what the prices prove of a lesson of `size` bytes. Allocates only for the requests, and so only if there is
-/// one price for each of them and none is above 2^32.
+/// Returns what the prices prove of a lesson of `size` bytes. Allocates only for the requests, and so only if the batch
+/// has an update.
 fn shown(
     alloc: Global,
     known: &Known,
@@ -83,7 +83,7 @@ fn shown(
 ) -> Result<Verdict, Memory>
     requires { IsBatchFor known.now.roster batch.now }
     ensures shown { IfOk result (λ verdict. Show known.now batch.now prices.now size verdict) }
-    ensures memory { IfErr result (λ refused. ArePrices known.now batch.now prices.now) }
+    ensures memory { IfErr result (λ refused. batch.now ≢ []) }
 {
     if prices.len() != named_count(batch.updates()) {
         return Ok(Verdict::PriceCount);
@@ -95,8 +95,8 @@ fn shown(
     Ok(shown_by_bound(known.slots(), &costing, size, prices))
 }
 
-/// Returns the verdict on the stream and the prices. Allocates only if a whole message is at the front of the stream, or
-/// if the verdict takes the bound of the prices.
+/// Returns the verdict on the stream and the prices. Allocates only to read the stream, and for the requests of updates
+/// that it carries.
 fn said(
     alloc: Global,
     known: &Known,
@@ -106,8 +106,8 @@ fn said(
 ) -> Result<Verdict, Memory>
     requires { IsBatchFor known.now.roster batch.now }
     ensures says { IfOk result (λ verdict. Says known.now batch.now stream.now prices.now verdict) }
-    ensures memory { IfErr result (λ refused. BeginsWithMessage known.now stream.now
-        ⊎ (Carries known.now stream.now batch.now × ArePrices known.now batch.now prices.now)) }
+    ensures memory { IfErr result (λ refused. BeginsUnrefused known.now stream.now
+        ⊎ (Carries known.now stream.now batch.now × (batch.now ≢ []))) }
 {
     let updates = batch.updates();
     match read(alloc, known, updates, stream)? {
@@ -125,9 +125,9 @@ fn said(
 /// that no legal stream that carries it is shorter. Trusts nothing about how they were made.
 ///
 /// The batch was made for the roster of the known state. The messages are read one after another, and each is compared
-/// with the batch. Allocates for a copy of the known state and the current message, and so only if a whole message is at
-/// the front of the stream; and for the requests, and so only if the stream carries the batch, there is one price for
-/// each request, and none is above 2^32.
+/// with the batch. Allocates for a copy of the known state, the current message and the requests of a batch that the
+/// stream carries, and so only if a whole message is at the front of the stream: a definition, or a message that the
+/// known state doesn't refuse.
 pub fn verify(
     alloc: Global,
     known: &Known,
@@ -142,8 +142,7 @@ pub fn verify(
     ensures carried { IfOk result (λ verdict. IsNotCarried verdict ↔ ((carried : List Update) × Carries known.now stream.now carried × (carried ≢ batch.now))) }
     ensures shortest { IfOk result (λ verdict. (bytes : ℕ) → verdict ≡ verdicts.Shortest bytes →
         (ms : List Message) × (stream.now ≡ stream_of ms) × (bytes ≡ length stream.now) × Shortest known.now batch.now ms) }
-    ensures memory { IfErr result (λ refused. BeginsWithMessage known.now stream.now
-        ⊎ (Carries known.now stream.now batch.now × ArePrices known.now batch.now prices.now)) }
+    ensures memory { IfErr result (λ refused. BeginsUnrefused known.now stream.now) }
 {
     // These calls serve their clauses alone: they say that the roster is sound and that there are 128 slots, which
     // `shortest` needs.

@@ -1,10 +1,9 @@
-use Rattle.std.proofs.Common.{◌≡◌, ◌^◌, ◌≤◌, true, false, length, sym, ap, ◌∙◌, rules, arith}
-use Rattle.std.specs.List.{AllByRecursion}
+use Rattle.std.proofs.Common.{◌≡◌, true, false, length, sym, ap, ◌∙◌, rules, arith}
 use Rattle.known_state.specs.Cost.{knowledge_of}
 use Rattle.price_checker.specs.NamedUpdates.{named_count}
-use Rattle.price_checker.specs.Verdicts.{requests, ArePrices}
+use Rattle.price_checker.specs.Verdicts.{requests}
 use Rattle.price_checker.proofs.NamedRequests.{requests-named}
-use Rattle.price_checker.proofs.FoundAsSaid.{of_error, some_above}
+use Rattle.price_checker.proofs.FoundAsSaid.{some_above}
 use Rattle.price_checker.proofs.verifying.shown.Goals as goal
 
 pub returns-then-prices-named_count-clause-shown : goal.returns-then-prices-named_count-clause-shown
@@ -23,14 +22,6 @@ returns-then-not-are_prices-clause-shown c =
   where
     no_way : true ≡ false → ⊥
     no_way e = cc
-
-pub returns-in_err-costing-clause-memory : goal.returns-in_err-costing-clause-memory
-returns-in_err-costing-clause-memory c =
-    let k = c.args.known.now in
-    let us = c.args.batch.now in
-    let count : c.named_count.result ≡ length (requests k us) = c.named_count.ensures.count ∙ ap named_count c.updates.ensures.updates ∙ sym (requests-named k.roster (knowledge_of k.state) us) in
-    let range : AllByRecursion (λ price. price ≤ 2 ^ 32) c.args.prices.now = search rules in
-    of_error c.from_residual.result (ArePrices k us c.args.prices.now) (omega (arith, count), range)
 
 pub shown_by_bound-requires-clause-prices : goal.shown_by_bound-requires-clause-prices
 shown_by_bound-requires-clause-prices c =

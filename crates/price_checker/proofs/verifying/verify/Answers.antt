@@ -1,4 +1,4 @@
-use Rattle.std.proofs.Common.{◌≡◌, ◌≢◌, None, ℕ, List, length, sym, ap, subst, ◌∙◌}
+use Rattle.std.proofs.Common.{◌≡◌, ◌≢◌, None, ℕ, List, [], length, sym, ap, subst, ◌∙◌, inl, inr, ◌⊎◌}
 use Rattle.std.specs.Prelude.{◌↔◌}
 use Rattle.table_types.specs.declared.update.Update.{Update}
 use Rattle.table_types.specs.Tables.{Definition}
@@ -8,10 +8,11 @@ use Rattle.peers_msg.specs.Spelling.{stream_of}
 use Rattle.known_state.specs.Shortest.{Shortest}
 use Rattle.price_checker.specs.declared.verdict.Verdict.{Verdict}
 use Rattle.price_checker.specs.declared.verdict.Verdict.TheVariants as verdicts
-use Rattle.price_checker.specs.Verdicts.{Carries, Says, IsNotLegal, IsNotCarried}
+use Rattle.price_checker.specs.Verdicts.{BeginsUnrefused, Carries, Says, IsNotLegal, IsNotCarried}
+use Rattle.price_checker.proofs.OneReading.{carries_unrefused}
 use Rattle.price_checker.proofs.OneVerdict.{says_one, not_legal, not_carried}
 use Rattle.price_checker.proofs.ShortestIsSaid.{shortest_said}
-use Rattle.price_checker.proofs.FoundAsSaid.{of_answer}
+use Rattle.price_checker.proofs.FoundAsSaid.{of_answer, of_memory}
 use Rattle.price_checker.proofs.verifying.verify.Goals as goal
 
 pub returns-clause-exactly : goal.returns-clause-exactly
@@ -48,3 +49,14 @@ returns-clause-shortest c =
     let slots : length k.state.slots ≡ 128 = ap length (sym c.slots.ensures) ∙ sym c.len-slots.ensures.count ∙ c.len-slots.ensures.all in
     of_answer c.said.result (Says k us stream prices) (λ verdict. (bytes : ℕ) → verdict ≡ verdicts.Shortest bytes → (ms : List Message) × (stream ≡ stream_of ms) × (bytes ≡ length stream) × Shortest k us ms)
     (λ verdict says bytes is. shortest_said k us stream prices bytes sound c.roster.ensures.own slots (subst (λ (v : Verdict). Says k us stream prices v) is says)) c.said.ensures.says
+
+pub returns-clause-memory : goal.returns-clause-memory
+returns-clause-memory c =
+    let k = c.args.known.now in
+    let us = c.args.batch.now in
+    let stream = c.args.stream.now in
+    of_memory c.said.result (BeginsUnrefused k stream ⊎ (Carries k stream us × (us ≢ []))) (BeginsUnrefused k stream) unrefused c.said.ensures.memory
+  where
+    unrefused : BeginsUnrefused c.args.known.now c.args.stream.now ⊎ (Carries c.args.known.now c.args.stream.now c.args.batch.now × (c.args.batch.now ≢ [])) → BeginsUnrefused c.args.known.now c.args.stream.now
+    unrefused (inl begins) = begins
+    unrefused (inr (carries, some)) = carries_unrefused c.args.known.now c.args.stream.now c.args.batch.now c.roster.ensures.own carries some

@@ -1,4 +1,5 @@
-use Rattle.std.proofs.Common.{◌≡◌, ◌+◌, ◌++◌, [], ◌∷◌, List, take, sym, ap, ◌∙◌}
+use Rattle.std.proofs.Common.{◌≡◌, ◌≢◌, ◌+◌, ◌++◌, [], ◌∷◌, List, length, take, Result, Ok, Err, sym, ap, ◌∙◌, arith}
+use Rattle.std.specs.Prelude.{IfErr}
 use Rattle.std.proofs.lemmas.List.{take_more, take_all}
 use Rattle.table_types.specs.declared.update.Update.{Update}
 use Rattle.table_types.specs.Tables.{Definition}
@@ -37,3 +38,13 @@ returns-clause-few c =
     let whole : take c.loop-update.update-index us ≡ c.args.batch.now = take_all c.loop-update.update-index us c.loop-update-test.false ∙ c.updates-updates.ensures.updates in
     let are : c.loop-update.requests.items ≡ requests_of roster (knowledge_of s) c.args.batch.now = c.loop-update.invariant.0 ∙ ap (requests_of roster (knowledge_of s)) whole in
     rw are (few-asked roster (knowledge_of s) c.args.batch.now)
+
+pub returns-in_err-full-clause-memory : goal.returns-in_err-full-clause-memory
+returns-in_err-full-clause-memory c =
+    let us = c.updates-updates.result.now in
+    let some : c.args.batch.now ≢ [] = λ none. let nothing : length us ≡ 0 = ap length (c.updates-updates.ensures.updates ∙ none) in absurd (omega (arith, nothing, c.loop-update-test.true)) in
+    of_memory c.from_residual.result some
+  where
+    of_memory : {X E : Type 0} (result : Result X E) {p : Type 0} → p → IfErr result (λ e. p)
+    of_memory (Ok x) is = tt
+    of_memory (Err e) is = is
