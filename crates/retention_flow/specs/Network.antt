@@ -5,6 +5,8 @@ use Rattle.std.specs.List.{AllByRecursion}
 use Rattle.known_state.specs.Requests.{Asked}
 use Rattle.known_state.specs.Plans.{Asking, after_request, Plan, Link, links, kept_over}
 use Rattle.retention_flow.specs.declared.arcs.RequestArc.{RequestArc}
+use Rattle.retention_flow.specs.declared.network.Network.{Network}
+use Rattle.retention_flow.specs.declared.steps.Ends.{Ends}
 use Rattle.retention_flow.specs.declared.steps.Step.{Step}
 use Rattle.retention_flow.specs.declared.steps.Leaving.{Leaving}
 use Rattle.retention_flow.specs.declared.steps.ResidualArc.{ResidualArc}
@@ -93,6 +95,10 @@ arc_at arcs node = slice_index_or arcs node (record { from = 0; saving = 0; kept
 abbrev pub GoBack : List RequestArc → Type 0
 GoBack arcs = (node : ℕ) → node < length arcs → (arc_at arcs node).from ≤ node
 
+-- no arc saves more than the size of the greatest message
+abbrev pub SaveLittle : List RequestArc → Type 0
+SaveLittle arcs = (node : ℕ) → node < length arcs → (arc_at arcs node).saving ≤ 32768
+
 -- at each place, the free slots and the arcs kept over it are `slots` together
 pub record IsRoom (slots : ℕ) (room : List ℕ) (arcs : List RequestArc) : Type 0 where
   pub count : length room ≡ length arcs
@@ -102,7 +108,19 @@ pub record IsRoom (slots : ℕ) (room : List ℕ) (arcs : List RequestArc) : Typ
 abbrev pub IsRoomFrom : ℕ → ℕ → List ℕ → List RequestArc → Type 0
 IsRoomFrom from slots room arcs = (node : ℕ) → node < length arcs → slice_index room node + kept_over (links_of 0 arcs) (node + 1) + (if nat_lt node from then 1 else 0) ≡ slots
 
+-- the network of a search: no arc begins after its request, none saves more than the greatest message has bytes, there is
+-- a count of free slots for each place, and an arc that begins at a node ends at one before the last
+pub record IsNetwork (network : Network) : Type 0 where
+  pub back : GoBack network.arcs.now
+  pub little : SaveLittle network.arcs.now
+  pub places : length network.room.now ≡ length network.arcs.now
+  pub later : (length network.later.now ≡ length network.arcs.now) × ((node : ℕ) → node < length network.arcs.now → slice_index network.later.now node < length network.arcs.now)
+
 -- ---- a search
+
+-- no height is above 2^32
+abbrev pub AreSmall : List ℕ → Type 0
+AreSmall heights = (node : ℕ) → node < length heights → slice_index heights node ≤ 2 ^ 32
 
 -- heights that are calm, and this high at the target, are nowhere above 2^27
 abbrev pub AreLow : List ℕ → List RequestArc → ℕ → ℕ → Type 0
@@ -129,10 +147,6 @@ pub record IsSlack (heights room : List ℕ) (arcs : List RequestArc) (reached :
   pub left : (node : ℕ) → node < length arcs → 0 < slice_index room node → reached (node + 1) ≡ true → reached node ≡ false → slice_index heights (node + 1) + by ≤ slice_index heights node
   pub over : (node : ℕ) → node < length arcs →
       IsSlackOf (arc_at arcs node).kept (arc_at arcs node).saving (slice_index heights (arc_at arcs node).from) (slice_index heights node) (reached (arc_at arcs node).from) (reached node) by
-
--- no arc saves more than the size of the greatest message
-abbrev pub SaveLittle : List RequestArc → Type 0
-SaveLittle arcs = (node : ℕ) → node < length arcs → (arc_at arcs node).saving ≤ 32768
 
 -- an arc that isn't kept saves nothing
 abbrev pub SaveIfKept : List RequestArc → Type 0
@@ -185,6 +199,13 @@ pub record IsSearch (heights room : List ℕ) (arcs : List RequestArc) (steps : 
   pub start : is_reached steps source ≡ true
   pub tight : (node : ℕ) (step : Step) → step_at steps node ≡ Some step → (node ≤ length arcs) × (step.rank < count) × IsResidual heights room arcs step.arc node 0
   pub from : (node : ℕ) (step : Step) → step_at steps node ≡ Some step → IsReachedFrom arcs steps source node step
+
+-- what a search finds, if the heights were `before`: heights that are calm, and as high at the target as they were, and
+-- how each node reached was reached
+pub record IsFound (before heights : List ℕ) (network : Network) (ends : Ends) (reached : List (Option Step)) : Type 0 where
+  pub calm : IsCalm heights network.room.now network.arcs.now
+  pub target : slice_index heights ends.target ≡ slice_index before ends.target
+  pub steps : (count : ℕ) × IsSearch heights network.room.now network.arcs.now reached ends.source count
 
 -- how many nodes aren't reached
 abbrev pub unreached : List (Option Step) → ℕ

@@ -8,9 +8,10 @@ ghost use Rattle.retention_flow.specs.Network.{arc_at, AreArcs, GoBack, SaveLitt
 
 use crate::arcs::RequestArc;
 use crate::augmenting::augment;
+use crate::distances::raise_by_distances;
+use crate::network::Network;
 use crate::path_search::quick_search;
 use crate::plans::plan_of;
-use crate::settling::settle;
 use crate::spreading::later_ends;
 use crate::steps::Ends;
 use known_state::Plan;
@@ -78,12 +79,22 @@ fn add_slots(
         source: 0,
         target: arcs.len(),
     };
-    settle(alloc, ends, heights, room, arcs, later.as_slice())?;
+    let network = Network {
+        arcs: &*arcs,
+        room: &*room,
+        later: later.as_slice(),
+    };
+    raise_by_distances(alloc, ends, &network, heights)?;
     for _ in 0..count {
         if heights[ends.source] == heights[ends.target] {
             return Ok(());
         }
-        let steps = quick_search(alloc, ends, heights, room, arcs, later.as_slice())?;
+        let network = Network {
+            arcs: &*arcs,
+            room: &*room,
+            later: later.as_slice(),
+        };
+        let steps = quick_search(alloc, ends, &network, heights)?;
         augment(ends, room, arcs, &steps);
     }
     Ok(())

@@ -1,15 +1,15 @@
-//! Heights by which a search reaches its target without raising any.
+//! Heights raised by distances, so that a search reaches its target without raising any.
 //!
 //! Each height rises by as much as its node is nearer to the source than the target is, if the length of a residual arc
 //! is its slack. The distances come from a heap (Dijkstra), and nothing is proved of them: the heights are used only if
 //! a test finds them calm.
 
-ghost use Rattle.std.specs.Prelude.{◌≡◌, ℕ, ◌+◌, ◌^◌, ◌≤◌, ◌<◌, ◌↔◌, IsTrue, false, List, length, slice_index, IfOk, IfSome};
-ghost use Rattle.retention_flow.specs.declared.arcs.RequestArc.{RequestArc};
-ghost use Rattle.retention_flow.specs.Network.{arc_at, is_reached, GoBack, SaveLittle, IsCalmRise, IsCalmArc, IsCalm};
+ghost use Rattle.std.specs.Prelude.{◌≡◌, ◌+◌, ◌≤◌, ◌<◌, ◌↔◌, IsTrue, false, length, slice_index, IfOk, IfSome};
+ghost use Rattle.retention_flow.specs.Network.{is_reached, AreSmall, IsCalmRise, IsCalm, IsNetwork};
 
 use crate::arcs::RequestArc;
 use crate::leaving::{over_arc, over_place};
+use crate::network::Network;
 use crate::steps::{Ends, Leaving, ResidualArc, Step};
 use std::alloc::Global;
 use std::cmp::Reverse;
@@ -62,49 +62,49 @@ fn note(
 
 /// Returns the residual arc over the place before `node`, if there is one and it leaves the nodes reached.
 fn over_place_before(
+    network: &Network<'_>,
     heights: &[u64],
-    room: &[usize],
     steps: &[Option<Step>],
     node: usize,
 ) -> Option<Leaving>
-    requires calm { (arcs : List RequestArc) × IsCalm heights.now room.now arcs × (length room.now ≡ length arcs) × (length steps.now ≡ length arcs + 1) × (node ≤ length arcs) }
+    requires network { IsNetwork network.now }
+    requires calm { IsCalm heights.now network.now.room.now network.now.arcs.now }
+    requires steps { length steps.now ≡ length network.now.arcs.now + 1 }
+    requires node { node ≤ length network.now.arcs.now }
     ensures { IfSome result (λ arc. arc.node < length steps.now) }
 {
     if node == 0 {
         return None;
     }
-    over_place(heights, room, steps, node - 1)
+    over_place(heights, network.room, steps, node - 1)
 }
 
-/// Notes the distances of the nodes to which the arcs that begin at `node` lead, if that is the first node: those of
-/// requests before the one after `last`.
+/// Notes the distances of the nodes to which the arcs that begin at `node` lead, if that is the first node: of all but the
+/// last of them.
 fn note_from_first(
+    network: &Network<'_>,
     heights: &[u64],
-    arcs: &[RequestArc],
     steps: &[Option<Step>],
     target: usize,
     node: usize,
-    last: usize,
     found: &mut Distances,
 ) -> Result<(), Memory>
-    requires back { GoBack arcs.now }
-    requires little { SaveLittle arcs.now }
-    requires small { (node : ℕ) → node < length heights.now → slice_index heights.now node ≤ 2 ^ 32 }
-    requires long { (length heights.now ≡ length arcs.now + 1) × (length steps.now ≡ length arcs.now + 1) × (length found.old.least.items ≡ length arcs.now + 1) }
-    requires node { node < length arcs.now }
-    requires last { last < length arcs.now }
-    requires calm { (node : ℕ) → node < length arcs.now → IsCalmArc heights.now node (arc_at arcs.now node) }
-    requires target { target ≤ length arcs.now }
+    requires network { IsNetwork network.now }
+    requires calm { IsCalm heights.now network.now.room.now network.now.arcs.now }
+    requires small { AreSmall heights.now }
+    requires node { node < length network.now.arcs.now }
+    requires target { target ≤ length network.now.arcs.now }
+    requires long { (length steps.now ≡ length network.now.arcs.now + 1) × (length found.old.least.items ≡ length network.now.arcs.now + 1) }
     ensures { IfOk result (λ done. length found.new.least.items ≡ length found.old.least.items) }
 {
     if node > 0 {
         return Ok(());
     }
     let distance = found.least[node];
-    for index in 0..last {
-        let from = arcs[index].from;
+    for index in 0..network.later[node] {
+        let from = network.arcs[index].from;
         if from == node {
-            let leaving = over_arc(heights, arcs, steps, index);
+            let leaving = over_arc(heights, network.arcs, steps, index);
             note(leaving, distance, target, found)?;
         }
     }
@@ -113,38 +113,33 @@ fn note_from_first(
 
 /// Notes the distances of the nodes next to `node`, which is at its least distance.
 fn note_from(
+    network: &Network<'_>,
     heights: &[u64],
-    room: &[usize],
-    arcs: &[RequestArc],
-    later: &[usize],
     steps: &[Option<Step>],
     target: usize,
     node: usize,
     found: &mut Distances,
 ) -> Result<(), Memory>
-    requires calm { IsCalm heights.now room.now arcs.now }
-    requires back { GoBack arcs.now }
-    requires little { SaveLittle arcs.now }
-    requires room { length room.now ≡ length arcs.now }
-    requires small { (node : ℕ) → node < length heights.now → slice_index heights.now node ≤ 2 ^ 32 }
-    requires later { (length later.now ≡ length arcs.now) × ((node : ℕ) → node < length arcs.now → slice_index later.now node < length arcs.now) }
-    requires node { node ≤ length arcs.now }
-    requires target { target ≤ length arcs.now }
-    requires long { (length steps.now ≡ length arcs.now + 1) × (length found.old.least.items ≡ length arcs.now + 1) }
+    requires network { IsNetwork network.now }
+    requires calm { IsCalm heights.now network.now.room.now network.now.arcs.now }
+    requires small { AreSmall heights.now }
+    requires node { node ≤ length network.now.arcs.now }
+    requires target { target ≤ length network.now.arcs.now }
+    requires long { (length steps.now ≡ length network.now.arcs.now + 1) × (length found.old.least.items ≡ length network.now.arcs.now + 1) }
     ensures { IfOk result (λ done. length found.new.least.items ≡ length found.old.least.items) }
 {
     let distance = found.least[node];
-    let before = over_place_before(heights, room, steps, node);
+    let before = over_place_before(network, heights, steps, node);
     note(before, distance, target, found)?;
-    if node == arcs.len() {
+    if node == network.arcs.len() {
         return Ok(());
     }
-    note_from_first(heights, arcs, steps, target, node, later[node], found)?;
-    let over = over_arc(heights, arcs, steps, node);
+    note_from_first(network, heights, steps, target, node, found)?;
+    let over = over_arc(heights, network.arcs, steps, node);
     note(over, distance, target, found)?;
-    let on = over_arc(heights, arcs, steps, later[node]);
+    let on = over_arc(heights, network.arcs, steps, network.later[node]);
     note(on, distance, target, found)?;
-    let after = over_place(heights, room, steps, node);
+    let after = over_place(heights, network.room, steps, node);
     note(after, distance, target, found)?;
     Ok(())
 }
@@ -166,19 +161,14 @@ fn nearest(steps: &[Option<Step>], heap: &mut BinaryHeap<Reverse<(u64, usize)>>)
 fn find_distances(
     alloc: Global,
     ends: Ends,
+    network: &Network<'_>,
     heights: &[u64],
-    room: &[usize],
-    arcs: &[RequestArc],
-    later: &[usize],
 ) -> Result<Vec<u64>, Memory>
-    requires calm { IsCalm heights.now room.now arcs.now }
-    requires back { GoBack arcs.now }
-    requires little { SaveLittle arcs.now }
-    requires room { length room.now ≡ length arcs.now }
-    requires small { (node : ℕ) → node < length heights.now → slice_index heights.now node ≤ 2 ^ 32 }
-    requires later { (length later.now ≡ length arcs.now) × ((node : ℕ) → node < length arcs.now → slice_index later.now node < length arcs.now) }
-    requires ends { (ends.source ≤ length arcs.now) × (ends.target ≤ length arcs.now) }
-    ensures { IfOk result (λ distances. length distances.items ≡ length arcs.now + 1) }
+    requires network { IsNetwork network.now }
+    requires calm { IsCalm heights.now network.now.room.now network.now.arcs.now }
+    requires small { AreSmall heights.now }
+    requires ends { (ends.source ≤ length network.now.arcs.now) × (ends.target ≤ length network.now.arcs.now) }
+    ensures { IfOk result (λ distances. length distances.items ≡ length network.now.arcs.now + 1) }
 {
     let mut found = first_distances(alloc, heights.len(), ends.source)?;
     let mut steps = vec![in alloc; None; heights.len()]?;
@@ -190,16 +180,7 @@ fn find_distances(
             rank: 0,
             arc: ResidualArc::Start,
         });
-        note_from(
-            heights,
-            room,
-            arcs,
-            later,
-            &steps,
-            ends.target,
-            node,
-            &mut found,
-        )?;
+        note_from(network, heights, &steps, ends.target, node, &mut found)?;
     }
     Ok(found.least)
 }
@@ -228,13 +209,13 @@ fn is_calm_place(heights: &[u64], room: &[usize], node: usize) -> bool
 }
 
 /// Returns whether the heights are calm.
-fn is_calm(heights: &[u64], room: &[usize], arcs: &[RequestArc]) -> bool
-    requires long { (length heights.now ≡ length arcs.now + 1) × (length room.now ≡ length arcs.now) }
-    requires back { GoBack arcs.now }
-    ensures { IsTrue result → IsCalm heights.now room.now arcs.now }
+fn is_calm(network: &Network<'_>, heights: &[u64]) -> bool
+    requires network { IsNetwork network.now }
+    requires long { length heights.now ≡ length network.now.arcs.now + 1 }
+    ensures { IsTrue result → IsCalm heights.now network.now.room.now network.now.arcs.now }
 {
-    for (node, arc) in arcs.iter().enumerate() {
-        if !is_calm_place(heights, room, node) {
+    for (node, arc) in network.arcs.iter().enumerate() {
+        if !is_calm_place(heights, network.room, node) {
             return false;
         }
         if !is_calm_rise(*arc, heights[arc.from], heights[node]) {
@@ -263,28 +244,24 @@ fn nearer_raised(
     Ok(raised)
 }
 
-/// Replaces the heights by those with which a search reaches the target without raising any, unless these fail the test.
-pub fn settle(
+/// Raises each height by as much as its node is nearer to the source than the target is, so that a search reaches the target
+/// without raising any, unless a test finds that the raised heights aren't calm.
+pub fn raise_by_distances(
     alloc: Global,
     ends: Ends,
+    network: &Network<'_>,
     heights: &mut [u64],
-    room: &[usize],
-    arcs: &[RequestArc],
-    later: &[usize],
 ) -> Result<(), Memory>
-    requires calm { IsCalm heights.old room.now arcs.now }
-    requires back { GoBack arcs.now }
-    requires little { SaveLittle arcs.now }
-    requires room { length room.now ≡ length arcs.now }
-    requires small { (node : ℕ) → node < length heights.old → slice_index heights.old node ≤ 2 ^ 32 }
-    requires later { (length later.now ≡ length arcs.now) × ((node : ℕ) → node < length arcs.now → slice_index later.now node < length arcs.now) }
-    requires ends { (ends.source ≤ length arcs.now) × (ends.target ≤ length arcs.now) }
-    ensures calm { IfOk result (λ done. IsCalm heights.new room.now arcs.now) }
+    requires network { IsNetwork network.now }
+    requires calm { IsCalm heights.old network.now.room.now network.now.arcs.now }
+    requires small { AreSmall heights.old }
+    requires ends { (ends.source ≤ length network.now.arcs.now) × (ends.target ≤ length network.now.arcs.now) }
+    ensures calm { IfOk result (λ done. IsCalm heights.new network.now.room.now network.now.arcs.now) }
     ensures target { IfOk result (λ done. slice_index heights.new ends.target ≡ slice_index heights.old ends.target) }
 {
-    let distances = find_distances(alloc, ends, heights, room, arcs, later)?;
+    let distances = find_distances(alloc, ends, network, heights)?;
     let raised = nearer_raised(alloc, ends.target, heights, &distances)?;
-    if raised[ends.target] == heights[ends.target] && is_calm(&raised, room, arcs) {
+    if raised[ends.target] == heights[ends.target] && is_calm(network, &raised) {
         heights.copy_from_slice(&raised);
     }
     Ok(())

@@ -2,9 +2,10 @@
 
 ghost use Rattle.std.specs.Prelude.{◌≡◌, ℕ, ◌+◌, ◌^◌, ◌≤◌, ◌<◌, ◌⊎◌, List, true, false, length, slice_index, IfSome};
 ghost use Rattle.retention_flow.specs.declared.arcs.RequestArc.{RequestArc};
-ghost use Rattle.retention_flow.specs.Network.{is_reached, arc_at, GoBack, SaveLittle, IsCalmArc, IsCalm, IsSlackOf, IsSlack, IsNoMore, Leaves};
+ghost use Rattle.retention_flow.specs.Network.{is_reached, arc_at, AreSmall, IsCalmArc, IsCalm, IsNetwork, IsSlackOf, IsSlack, IsNoMore, Leaves};
 
 use crate::arcs::RequestArc;
+use crate::network::Network;
 use crate::steps::{Leaving, ResidualArc, Step};
 
 /// Returns whether the node is reached.
@@ -102,24 +103,21 @@ fn lesser(one: Option<Leaving>, other: Option<Leaving>) -> Option<Leaving>
 
 /// Returns an arc of least slack among those that leave the nodes reached.
 pub fn least_leaving(
+    network: &Network<'_>,
     heights: &[u64],
-    room: &[usize],
-    arcs: &[RequestArc],
     steps: &[Option<Step>],
 ) -> Option<Leaving>
-    requires calm { IsCalm heights.now room.now arcs.now }
-    requires back { GoBack arcs.now }
-    requires little { SaveLittle arcs.now }
-    requires room { length room.now ≡ length arcs.now }
-    requires steps { length steps.now ≡ length arcs.now + 1 }
-    requires small { (node : ℕ) → node < length heights.now → slice_index heights.now node ≤ 2 ^ 32 }
-    ensures slack { (by : ℕ) → IsNoMore by result → IsSlack heights.now room.now arcs.now (is_reached steps.now) by }
-    ensures leaves { IfSome result (Leaves heights.now room.now arcs.now steps.now) }
+    requires network { IsNetwork network.now }
+    requires calm { IsCalm heights.now network.now.room.now network.now.arcs.now }
+    requires small { AreSmall heights.now }
+    requires steps { length steps.now ≡ length network.now.arcs.now + 1 }
+    ensures slack { (by : ℕ) → IsNoMore by result → IsSlack heights.now network.now.room.now network.now.arcs.now (is_reached steps.now) by }
+    ensures leaves { IfSome result (Leaves heights.now network.now.room.now network.now.arcs.now steps.now) }
 {
     let mut least = None;
-    for node in 0..arcs.len() {
-        least = lesser(least, over_place(heights, room, steps, node));
-        least = lesser(least, over_arc(heights, arcs, steps, node));
+    for node in 0..network.arcs.len() {
+        least = lesser(least, over_place(heights, network.room, steps, node));
+        least = lesser(least, over_arc(heights, network.arcs, steps, node));
     }
     least
 }

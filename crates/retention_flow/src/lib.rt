@@ -15,14 +15,15 @@
 mod adding;
 mod arcs;
 mod augmenting;
+mod distances;
 mod laws;
 mod leaving;
+mod network;
 mod path_search;
 mod planning;
 mod plans;
 mod raising;
 mod room;
-mod settling;
 mod spreading;
 mod steps;
 mod taking;

@@ -1,13 +1,13 @@
 //! A search for an augmenting path.
 
-ghost use Rattle.std.specs.Prelude.{◌≡◌, ℕ, ◌+◌, ◌≤◌, ◌<◌, true, false, None, Some, length, replicate, slice_index, slice_set, IfOk};
+ghost use Rattle.std.specs.Prelude.{◌≡◌, ◌≤◌, ◌<◌, true, false, None, Some, length, replicate, slice_index, slice_set, IfOk};
 ghost use Rattle.retention_flow.specs.declared.steps.ResidualArc.TheVariants.{Start};
-ghost use Rattle.retention_flow.specs.Network.{is_reached, GoBack, SaveLittle, IsCalm, AreLow, IsSearch, IsSpread};
+ghost use Rattle.retention_flow.specs.Network.{is_reached, AreLow, IsCalm, IsFound, IsNetwork, IsSpread};
 
-use crate::arcs::RequestArc;
+use crate::distances::raise_by_distances;
 use crate::leaving::least_leaving;
+use crate::network::Network;
 use crate::raising::raise;
-use crate::settling::settle;
 use crate::spreading::{reach, spread};
 use crate::steps::{Ends, ResidualArc, Step};
 use std::alloc::Global;
@@ -32,31 +32,26 @@ fn first_step(alloc: Global, nodes: usize, source: usize) -> Result<Vec<Option<S
 /// Raises the heights of the nodes reached until an arc that leaves them has slack 0, and goes on from there.
 fn go_on(
     ends: Ends,
+    network: &Network<'_>,
     heights: &mut [u64],
-    room: &[usize],
-    arcs: &[RequestArc],
-    later: &[usize],
     steps: &mut [Option<Step>],
     order: &mut Vec<usize>,
 ) -> Result<(), Memory>
-    requires back { GoBack arcs.now }
-    requires little { SaveLittle arcs.now }
-    requires calm { IsCalm heights.old room.now arcs.now }
-    requires room { length room.now ≡ length arcs.now }
-    requires low { AreLow room.now arcs.now ends.target (slice_index heights.old ends.target) }
-    requires later { (length later.now ≡ length arcs.now) × ((node : ℕ) → node < length arcs.now → slice_index later.now node < length arcs.now) }
-    requires target { ends.target ≤ length arcs.now }
+    requires network { IsNetwork network.now }
+    requires calm { IsCalm heights.old network.now.room.now network.now.arcs.now }
+    requires low { AreLow network.now.room.now network.now.arcs.now ends.target (slice_index heights.old ends.target) }
+    requires target { ends.target ≤ length network.now.arcs.now }
     requires start { is_reached steps.old ends.target ≡ false }
-    requires spread { IsSpread heights.old room.now arcs.now steps.old ends.source order.old.items }
-    ensures calm { IfOk result (λ done. IsCalm heights.new room.now arcs.now) }
+    requires spread { IsSpread heights.old network.now.room.now network.now.arcs.now steps.old ends.source order.old.items }
+    ensures calm { IfOk result (λ done. IsCalm heights.new network.now.room.now network.now.arcs.now) }
     ensures target { IfOk result (λ done. slice_index heights.new ends.target ≡ slice_index heights.old ends.target) }
     ensures grows { IfOk result (λ done. length order.old.items < length order.new.items) }
-    ensures spread { IfOk result (λ done. IsSpread heights.new room.now arcs.now steps.new ends.source order.new.items) }
+    ensures spread { IfOk result (λ done. IsSpread heights.new network.now.room.now network.now.arcs.now steps.new ends.source order.new.items) }
 {
-    let leaving = least_leaving(heights, room, arcs, steps).unwrap();
+    let leaving = least_leaving(network, heights, steps).unwrap();
     raise(heights, steps, leaving.slack);
     reach(leaving, steps, order)?;
-    spread(ends, heights, room, arcs, later, steps, order)?;
+    spread(ends, network, heights, steps, order)?;
     Ok(())
 }
 
@@ -64,32 +59,27 @@ fn go_on(
 fn reach_target(
     most: usize,
     ends: Ends,
+    network: &Network<'_>,
     heights: &mut [u64],
-    room: &[usize],
-    arcs: &[RequestArc],
-    later: &[usize],
     steps: &mut [Option<Step>],
     order: &mut Vec<usize>,
 ) -> Result<(), Memory>
-    requires back { GoBack arcs.now }
-    requires little { SaveLittle arcs.now }
-    requires calm { IsCalm heights.old room.now arcs.now }
-    requires room { length room.now ≡ length arcs.now }
-    requires low { AreLow room.now arcs.now ends.target (slice_index heights.old ends.target) }
-    requires later { (length later.now ≡ length arcs.now) × ((node : ℕ) → node < length arcs.now → slice_index later.now node < length arcs.now) }
-    requires target { ends.target ≤ length arcs.now }
-    requires spread { IsSpread heights.old room.now arcs.now steps.old ends.source order.old.items }
-    ensures calm { IfOk result (λ done. IsCalm heights.new room.now arcs.now) }
+    requires network { IsNetwork network.now }
+    requires calm { IsCalm heights.old network.now.room.now network.now.arcs.now }
+    requires low { AreLow network.now.room.now network.now.arcs.now ends.target (slice_index heights.old ends.target) }
+    requires target { ends.target ≤ length network.now.arcs.now }
+    requires spread { IsSpread heights.old network.now.room.now network.now.arcs.now steps.old ends.source order.old.items }
+    ensures calm { IfOk result (λ done. IsCalm heights.new network.now.room.now network.now.arcs.now) }
     ensures target { IfOk result (λ done. slice_index heights.new ends.target ≡ slice_index heights.old ends.target) }
-    ensures reached { IfOk result (λ done. length arcs.now < most → is_reached steps.new ends.target ≡ true) }
-    ensures spread { IfOk result (λ done. IsSpread heights.new room.now arcs.now steps.new ends.source order.new.items) }
+    ensures reached { IfOk result (λ done. length network.now.arcs.now < most → is_reached steps.new ends.target ≡ true) }
+    ensures spread { IfOk result (λ done. IsSpread heights.new network.now.room.now network.now.arcs.now steps.new ends.source order.new.items) }
 {
-    spread(ends, heights, room, arcs, later, steps, order)?;
+    spread(ends, network, heights, steps, order)?;
     for _ in 0..most {
         if steps[ends.target].is_some() {
             return Ok(());
         }
-        go_on(ends, heights, room, arcs, later, steps, order)?;
+        go_on(ends, network, heights, steps, order)?;
     }
     Ok(())
 }
@@ -100,29 +90,20 @@ pub fn search(
     alloc: Global,
     most: usize,
     ends: Ends,
+    network: &Network<'_>,
     heights: &mut [u64],
-    room: &[usize],
-    arcs: &[RequestArc],
-    later: &[usize],
 ) -> Result<Vec<Option<Step>>, Memory>
-    requires back { GoBack arcs.now }
-    requires little { SaveLittle arcs.now }
-    requires calm { IsCalm heights.old room.now arcs.now }
-    requires room { length room.now ≡ length arcs.now }
-    requires low { AreLow room.now arcs.now ends.target (slice_index heights.old ends.target) }
-    requires later { (length later.now ≡ length arcs.now) × ((node : ℕ) → node < length arcs.now → slice_index later.now node < length arcs.now) }
-    requires ends { (ends.source ≤ length arcs.now) × (ends.target ≤ length arcs.now) }
-    ensures calm { IfOk result (λ steps. IsCalm heights.new room.now arcs.now) }
-    ensures target { IfOk result (λ steps. slice_index heights.new ends.target ≡ slice_index heights.old ends.target) }
-    ensures reached { IfOk result (λ steps. length arcs.now < most → is_reached steps.items ends.target ≡ true) }
-    ensures steps { IfOk result (λ steps. (count : ℕ) × IsSearch heights.new room.now arcs.now steps.items ends.source count) }
+    requires network { IsNetwork network.now }
+    requires calm { IsCalm heights.old network.now.room.now network.now.arcs.now }
+    requires low { AreLow network.now.room.now network.now.arcs.now ends.target (slice_index heights.old ends.target) }
+    requires ends { (ends.source ≤ length network.now.arcs.now) × (ends.target ≤ length network.now.arcs.now) }
+    ensures found { IfOk result (λ steps. IsFound heights.old heights.new network.now ends steps.items) }
+    ensures reached { IfOk result (λ steps. length network.now.arcs.now < most → is_reached steps.items ends.target ≡ true) }
 {
     let mut steps = first_step(alloc, heights.len(), ends.source)?;
     let mut order = Vec::new(alloc);
     order.push(ends.source)?;
-    reach_target(
-        most, ends, heights, room, arcs, later, &mut steps, &mut order,
-    )?;
+    reach_target(most, ends, network, heights, &mut steps, &mut order)?;
     Ok(steps)
 }
 
@@ -130,28 +111,21 @@ pub fn search(
 pub fn quick_search(
     alloc: Global,
     ends: Ends,
+    network: &Network<'_>,
     heights: &mut [u64],
-    room: &[usize],
-    arcs: &[RequestArc],
-    later: &[usize],
 ) -> Result<Vec<Option<Step>>, Memory>
-    requires back { GoBack arcs.now }
-    requires little { SaveLittle arcs.now }
-    requires calm { IsCalm heights.old room.now arcs.now }
-    requires room { length room.now ≡ length arcs.now }
-    requires low { AreLow room.now arcs.now ends.target (slice_index heights.old ends.target) }
-    requires later { (length later.now ≡ length arcs.now) × ((node : ℕ) → node < length arcs.now → slice_index later.now node < length arcs.now) }
-    requires ends { (ends.source ≤ length arcs.now) × (ends.target ≤ length arcs.now) }
-    ensures calm { IfOk result (λ steps. IsCalm heights.new room.now arcs.now) }
-    ensures target { IfOk result (λ steps. slice_index heights.new ends.target ≡ slice_index heights.old ends.target) }
+    requires network { IsNetwork network.now }
+    requires calm { IsCalm heights.old network.now.room.now network.now.arcs.now }
+    requires low { AreLow network.now.room.now network.now.arcs.now ends.target (slice_index heights.old ends.target) }
+    requires ends { (ends.source ≤ length network.now.arcs.now) × (ends.target ≤ length network.now.arcs.now) }
+    ensures found { IfOk result (λ steps. IsFound heights.old heights.new network.now ends steps.items) }
     ensures reached { IfOk result (λ steps. is_reached steps.items ends.target ≡ true) }
-    ensures steps { IfOk result (λ steps. (count : ℕ) × IsSearch heights.new room.now arcs.now steps.items ends.source count) }
 {
-    let steps = search(alloc, FEW_RAISES, ends, heights, room, arcs, later)?;
+    let steps = search(alloc, FEW_RAISES, ends, network, heights)?;
     if steps[ends.target].is_some() {
         return Ok(steps);
     }
-    settle(alloc, ends, heights, room, arcs, later)?;
-    let steps = search(alloc, heights.len(), ends, heights, room, arcs, later)?;
+    raise_by_distances(alloc, ends, network, heights)?;
+    let steps = search(alloc, heights.len(), ends, network, heights)?;
     Ok(steps)
 }

@@ -1,11 +1,12 @@
 //! The plan that saves the most.
 
-ghost use Rattle.std.specs.Prelude.{◌≤◌, length, IfOk};
+ghost use Rattle.std.specs.Prelude.{◌≡◌, ◌-◌, ◌≤◌, length, IfOk};
 ghost use Rattle.table_types.specs.SlotIds.{slot_count};
-ghost use Rattle.known_state.specs.Plans.{Accepts};
+ghost use Rattle.known_state.specs.Plans.{at_start, Accepts};
+ghost use Rattle.retention_flow.specs.Network.{arcs_from, GoBack, SaveLittle, IsRoom};
 
 use crate::adding::plan_by_adding;
-use crate::arcs::find_arcs;
+use crate::arcs::{RequestArc, find_arcs};
 use crate::room::find_room;
 use crate::taking::plan_by_taking;
 use known_state::{Plan, Request};
@@ -33,6 +34,35 @@ impl From<Memory> for PlanError {
     }
 }
 
+/// The arcs of all links, kept, and the slots that it takes to keep them.
+#[derive(Drop)]
+struct AllKept {
+    arcs: Vec<RequestArc>,
+    /// The free slots at each place, from place 1 on.
+    room: Vec<usize>,
+    /// How many slots it takes: at least one less than there are.
+    taken: usize,
+}
+
+/// Keeps all links of `requests`, if the names in `held` are held at the start, in as many slots as that takes.
+fn keep_all(
+    alloc: Global,
+    slots: usize,
+    held: &[Name],
+    requests: &[Request],
+) -> Result<AllKept, Memory>
+    requires slots { (1 ≤ slots) × (slots ≤ slot_count) }
+    requires requests { length requests.now ≤ 4096 }
+    ensures arcs { IfOk result (λ all. all.arcs.items ≡ arcs_from (at_start held.now) requests.now) }
+    ensures back { IfOk result (λ all. GoBack all.arcs.items) }
+    ensures little { IfOk result (λ all. SaveLittle all.arcs.items) }
+    ensures room { IfOk result (λ all. IsRoom all.taken all.room.items all.arcs.items × (slots - 1 ≤ all.taken) × (all.taken ≤ 4096)) }
+{
+    let arcs = find_arcs(alloc, held, requests)?;
+    let (room, taken) = find_room(alloc, slots, &arcs)?;
+    Ok(AllKept { arcs, room, taken })
+}
+
 /// Returns an accepted plan for `requests`, with `slots` slots, if the names in `held` are held at the start: no other
 /// choice of requests to read saves more bytes (profile). If at most `slots - 1` slots are too many to keep all links,
 /// takes them away one by one; otherwise begins without slots, and adds one after another.
@@ -49,8 +79,11 @@ pub fn plan(
     requires requests { length requests.now ≤ 4096 }
     ensures accepted { IfOk result (λ plan. Accepts slots held.now requests.now plan) }
 {
-    let mut arcs = find_arcs(alloc, held, requests)?;
-    let (mut room, taken) = find_room(alloc, slots, &arcs)?;
+    let AllKept {
+        mut arcs,
+        mut room,
+        taken,
+    } = keep_all(alloc, slots, held, requests)?;
     if taken + 1 - slots < slots {
         return Ok(plan_by_taking(alloc, slots, taken, &mut room, &mut arcs)?);
     }
@@ -72,7 +105,10 @@ pub fn plan_by_cycles(
     requires requests { length requests.now ≤ 4096 }
     ensures accepted { IfOk result (λ plan. Accepts slots held.now requests.now plan) }
 {
-    let mut arcs = find_arcs(alloc, held, requests)?;
-    let (mut room, taken) = find_room(alloc, slots, &arcs)?;
+    let AllKept {
+        mut arcs,
+        mut room,
+        taken,
+    } = keep_all(alloc, slots, held, requests)?;
     Ok(plan_by_taking(alloc, slots, taken, &mut room, &mut arcs)?)
 }

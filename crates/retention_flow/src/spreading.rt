@@ -1,11 +1,12 @@
 //! Reaching nodes over arcs of slack 0.
 
-ghost use Rattle.std.specs.Prelude.{◌≡◌, ℕ, ◌+◌, ◌^◌, ◌≤◌, ◌<◌, List, [], ◌∷◌, ◌++◌, Some, slice_set, length, slice_index, IfOk, IfSome};
+ghost use Rattle.std.specs.Prelude.{◌≡◌, ℕ, ◌+◌, ◌≤◌, ◌<◌, List, [], ◌∷◌, ◌++◌, Some, slice_set, length, slice_index, IfOk, IfSome};
 ghost use Rattle.retention_flow.specs.declared.arcs.RequestArc.{RequestArc};
-ghost use Rattle.retention_flow.specs.Network.{arc_at, GoBack, SaveLittle, IsCalmArc, IsCalm, Leaves, IsSpread};
+ghost use Rattle.retention_flow.specs.Network.{AreSmall, GoBack, IsCalm, IsNetwork, Leaves, IsSpread};
 
 use crate::arcs::RequestArc;
 use crate::leaving::{over_arc, over_place};
+use crate::network::Network;
 use crate::steps::{Ends, Leaving, Step};
 use std::alloc::Global;
 use table_types::Memory;
@@ -67,98 +68,91 @@ fn reach_freely(
 
 /// Reaches a node over the place after `node`, if the slack is 0.
 fn reach_over_place(
+    network: &Network<'_>,
     heights: &[u64],
-    room: &[usize],
-    arcs: &[RequestArc],
     node: usize,
     steps: &mut [Option<Step>],
     order: &mut Vec<usize>,
 ) -> Result<(), Memory>
-    requires calm { IsCalm heights.now room.now arcs.now }
-    requires back { GoBack arcs.now }
-    requires room { length room.now ≡ length arcs.now }
-    requires node { node < length arcs.now }
-    requires long { length steps.old ≡ length arcs.now + 1 }
+    requires network { IsNetwork network.now }
+    requires calm { IsCalm heights.now network.now.room.now network.now.arcs.now }
+    requires node { node < length network.now.arcs.now }
+    requires long { length steps.old ≡ length network.now.arcs.now + 1 }
     ensures grows { IfOk result (λ done. length order.old.items ≤ length order.new.items) }
-    ensures spread { IfOk result (λ done. (source : ℕ) → IsSpread heights.now room.now arcs.now steps.old source order.old.items → IsSpread heights.now room.now arcs.now steps.new source order.new.items) }
+    ensures spread { IfOk result (λ done. (source : ℕ) → IsSpread heights.now network.now.room.now network.now.arcs.now steps.old source order.old.items → IsSpread heights.now network.now.room.now network.now.arcs.now steps.new source order.new.items) }
 {
-    let leaving = over_place(heights, room, steps, node);
+    let leaving = over_place(heights, network.room, steps, node);
     reach_freely(leaving, steps, order)?;
     Ok(())
 }
 
 /// Reaches the node before `node`, if there is one and the slack is 0.
 fn reach_before(
+    network: &Network<'_>,
     heights: &[u64],
-    room: &[usize],
-    arcs: &[RequestArc],
     node: usize,
     steps: &mut [Option<Step>],
     order: &mut Vec<usize>,
 ) -> Result<(), Memory>
-    requires calm { IsCalm heights.now room.now arcs.now }
-    requires back { GoBack arcs.now }
-    requires room { length room.now ≡ length arcs.now }
-    requires node { node ≤ length arcs.now }
-    requires long { length steps.old ≡ length arcs.now + 1 }
+    requires network { IsNetwork network.now }
+    requires calm { IsCalm heights.now network.now.room.now network.now.arcs.now }
+    requires node { node ≤ length network.now.arcs.now }
+    requires long { length steps.old ≡ length network.now.arcs.now + 1 }
     ensures grows { IfOk result (λ done. length order.old.items ≤ length order.new.items) }
-    ensures spread { IfOk result (λ done. (source : ℕ) → IsSpread heights.now room.now arcs.now steps.old source order.old.items → IsSpread heights.now room.now arcs.now steps.new source order.new.items) }
+    ensures spread { IfOk result (λ done. (source : ℕ) → IsSpread heights.now network.now.room.now network.now.arcs.now steps.old source order.old.items → IsSpread heights.now network.now.room.now network.now.arcs.now steps.new source order.new.items) }
 {
     if node == 0 {
         return Ok(());
     }
-    reach_over_place(heights, room, arcs, node - 1, steps, order)?;
+    reach_over_place(network, heights, node - 1, steps, order)?;
     Ok(())
 }
 
 /// Reaches a node over the arc of the request after `node`, if the slack is 0.
 fn reach_over_arc(
+    network: &Network<'_>,
     heights: &[u64],
-    arcs: &[RequestArc],
     node: usize,
     steps: &mut [Option<Step>],
     order: &mut Vec<usize>,
 ) -> Result<(), Memory>
-    requires back { GoBack arcs.now }
-    requires little { SaveLittle arcs.now }
-    requires small { (node : ℕ) → node < length heights.now → slice_index heights.now node ≤ 2 ^ 32 }
-    requires node { node < length arcs.now }
-    requires long { (length heights.now ≡ length arcs.now + 1) × (length steps.old ≡ length arcs.now + 1) }
-    requires calm { IsCalmArc heights.now node (arc_at arcs.now node) }
+    requires network { IsNetwork network.now }
+    requires calm { IsCalm heights.now network.now.room.now network.now.arcs.now }
+    requires small { AreSmall heights.now }
+    requires node { node < length network.now.arcs.now }
+    requires long { length steps.old ≡ length network.now.arcs.now + 1 }
     ensures grows { IfOk result (λ done. length order.old.items ≤ length order.new.items) }
-    ensures spread { IfOk result (λ done. (room : List ℕ) → (source : ℕ) → IsSpread heights.now room arcs.now steps.old source order.old.items → IsSpread heights.now room arcs.now steps.new source order.new.items) }
+    ensures spread { IfOk result (λ done. (source : ℕ) → IsSpread heights.now network.now.room.now network.now.arcs.now steps.old source order.old.items → IsSpread heights.now network.now.room.now network.now.arcs.now steps.new source order.new.items) }
 {
-    let leaving = over_arc(heights, arcs, steps, node);
+    let leaving = over_arc(heights, network.arcs, steps, node);
     reach_freely(leaving, steps, order)?;
     Ok(())
 }
 
-/// Reaches nodes over the arcs that begin at `node`, if that is the first node and the slack is 0: over those of requests
-/// before the one after `last`. There one arc begins for each name held at the start, at any other node at most one.
+/// Reaches nodes over the arcs that begin at `node`, if that is the first node and the slack is 0: over all but the last of
+/// them. There one arc begins for each name held at the start, at any other node at most one.
 fn reach_from_first(
+    network: &Network<'_>,
     heights: &[u64],
-    arcs: &[RequestArc],
     node: usize,
-    last: usize,
     steps: &mut [Option<Step>],
     order: &mut Vec<usize>,
 ) -> Result<(), Memory>
-    requires back { GoBack arcs.now }
-    requires little { SaveLittle arcs.now }
-    requires small { (node : ℕ) → node < length heights.now → slice_index heights.now node ≤ 2 ^ 32 }
-    requires long { (length heights.now ≡ length arcs.now + 1) × (length steps.old ≡ length arcs.now + 1) }
-    requires last { last < length arcs.now }
-    requires calm { (node : ℕ) → node < length arcs.now → IsCalmArc heights.now node (arc_at arcs.now node) }
+    requires network { IsNetwork network.now }
+    requires calm { IsCalm heights.now network.now.room.now network.now.arcs.now }
+    requires small { AreSmall heights.now }
+    requires node { node < length network.now.arcs.now }
+    requires long { length steps.old ≡ length network.now.arcs.now + 1 }
     ensures grows { IfOk result (λ done. length order.old.items ≤ length order.new.items) }
-    ensures spread { IfOk result (λ done. (room : List ℕ) → (source : ℕ) → IsSpread heights.now room arcs.now steps.old source order.old.items → IsSpread heights.now room arcs.now steps.new source order.new.items) }
+    ensures spread { IfOk result (λ done. (source : ℕ) → IsSpread heights.now network.now.room.now network.now.arcs.now steps.old source order.old.items → IsSpread heights.now network.now.room.now network.now.arcs.now steps.new source order.new.items) }
 {
     if node > 0 {
         return Ok(());
     }
-    for index in 0..last {
-        let from = arcs[index].from;
+    for index in 0..network.later[node] {
+        let from = network.arcs[index].from;
         if from == node {
-            reach_over_arc(heights, arcs, index, steps, order)?;
+            reach_over_arc(network, heights, index, steps, order)?;
         }
     }
     Ok(())
@@ -166,56 +160,46 @@ fn reach_from_first(
 
 /// Reaches the nodes next to `node` over arcs of slack 0, earlier nodes first.
 fn spread_from(
+    network: &Network<'_>,
     heights: &[u64],
-    room: &[usize],
-    arcs: &[RequestArc],
-    later: &[usize],
     node: usize,
     steps: &mut [Option<Step>],
     order: &mut Vec<usize>,
 ) -> Result<(), Memory>
-    requires calm { IsCalm heights.now room.now arcs.now }
-    requires back { GoBack arcs.now }
-    requires little { SaveLittle arcs.now }
-    requires room { length room.now ≡ length arcs.now }
-    requires small { (node : ℕ) → node < length heights.now → slice_index heights.now node ≤ 2 ^ 32 }
-    requires later { (length later.now ≡ length arcs.now) × ((node : ℕ) → node < length arcs.now → slice_index later.now node < length arcs.now) }
-    requires node { node ≤ length arcs.now }
-    requires long { length steps.old ≡ length arcs.now + 1 }
+    requires network { IsNetwork network.now }
+    requires calm { IsCalm heights.now network.now.room.now network.now.arcs.now }
+    requires small { AreSmall heights.now }
+    requires node { node ≤ length network.now.arcs.now }
+    requires long { length steps.old ≡ length network.now.arcs.now + 1 }
     ensures grows { IfOk result (λ done. length order.old.items ≤ length order.new.items) }
-    ensures spread { IfOk result (λ done. (source : ℕ) → IsSpread heights.now room.now arcs.now steps.old source order.old.items → IsSpread heights.now room.now arcs.now steps.new source order.new.items) }
+    ensures spread { IfOk result (λ done. (source : ℕ) → IsSpread heights.now network.now.room.now network.now.arcs.now steps.old source order.old.items → IsSpread heights.now network.now.room.now network.now.arcs.now steps.new source order.new.items) }
 {
-    reach_before(heights, room, arcs, node, steps, order)?;
-    if node == arcs.len() {
+    reach_before(network, heights, node, steps, order)?;
+    if node == network.arcs.len() {
         return Ok(());
     }
-    reach_from_first(heights, arcs, node, later[node], steps, order)?;
-    reach_over_arc(heights, arcs, node, steps, order)?;
-    reach_over_arc(heights, arcs, later[node], steps, order)?;
-    reach_over_place(heights, room, arcs, node, steps, order)?;
+    reach_from_first(network, heights, node, steps, order)?;
+    reach_over_arc(network, heights, node, steps, order)?;
+    reach_over_arc(network, heights, network.later[node], steps, order)?;
+    reach_over_place(network, heights, node, steps, order)?;
     Ok(())
 }
 
 /// Reaches nodes over arcs of slack 0 until the target is reached or no such arc is left.
 pub fn spread(
     ends: Ends,
+    network: &Network<'_>,
     heights: &[u64],
-    room: &[usize],
-    arcs: &[RequestArc],
-    later: &[usize],
     steps: &mut [Option<Step>],
     order: &mut Vec<usize>,
 ) -> Result<(), Memory>
-    requires calm { IsCalm heights.now room.now arcs.now }
-    requires back { GoBack arcs.now }
-    requires little { SaveLittle arcs.now }
-    requires room { length room.now ≡ length arcs.now }
-    requires small { (node : ℕ) → node < length heights.now → slice_index heights.now node ≤ 2 ^ 32 }
-    requires later { (length later.now ≡ length arcs.now) × ((node : ℕ) → node < length arcs.now → slice_index later.now node < length arcs.now) }
-    requires target { ends.target ≤ length arcs.now }
-    requires spread { IsSpread heights.now room.now arcs.now steps.old ends.source order.old.items }
+    requires network { IsNetwork network.now }
+    requires calm { IsCalm heights.now network.now.room.now network.now.arcs.now }
+    requires small { AreSmall heights.now }
+    requires target { ends.target ≤ length network.now.arcs.now }
+    requires spread { IsSpread heights.now network.now.room.now network.now.arcs.now steps.old ends.source order.old.items }
     ensures grows { IfOk result (λ done. length order.old.items ≤ length order.new.items) }
-    ensures spread { IfOk result (λ done. IsSpread heights.now room.now arcs.now steps.new ends.source order.new.items) }
+    ensures spread { IfOk result (λ done. IsSpread heights.now network.now.room.now network.now.arcs.now steps.new ends.source order.new.items) }
 {
     let mut index = 0;
     while index < order.len() {
@@ -223,7 +207,7 @@ pub fn spread(
             return Ok(());
         }
         let node = order[index];
-        spread_from(heights, room, arcs, later, node, steps, order)?;
+        spread_from(network, heights, node, steps, order)?;
         index += 1;
     }
     Ok(())

@@ -7,6 +7,7 @@ ghost use Rattle.retention_flow.specs.Network.{AreArcs, GoBack, SaveLittle, IsCa
 
 use crate::arcs::RequestArc;
 use crate::augmenting::augment;
+use crate::network::Network;
 use crate::path_search::search;
 use crate::plans::plan_of;
 use crate::spreading::later_ends;
@@ -40,15 +41,12 @@ fn take_away(
         target: 0,
     };
     for _ in 0..count {
-        let steps = search(
-            alloc,
-            heights.len(),
-            ends,
-            heights,
-            room,
-            arcs,
-            later.as_slice(),
-        )?;
+        let network = Network {
+            arcs: &*arcs,
+            room: &*room,
+            later: later.as_slice(),
+        };
+        let steps = search(alloc, heights.len(), ends, &network, heights)?;
         augment(ends, room, arcs, &steps);
     }
     Ok(())

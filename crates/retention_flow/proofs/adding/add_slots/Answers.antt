@@ -8,8 +8,8 @@ use Rattle.retention_flow.proofs.adding.add_slots.Goals as goal
 
 pub loop-init : goal.loop-init
 loop-init c = record {
-  calm = c.in_ok-settle.ensures.calm;
-  low = omega (arith, c.in_ok-settle.ensures.target, c.requires.low);
+  calm = c.in_ok-raise_by_distances.ensures.calm;
+  low = omega (arith, c.in_ok-raise_by_distances.ensures.target, c.requires.low);
   back = c.requires.back;
   little = c.requires.little;
   many = refl;
@@ -18,11 +18,15 @@ loop-init c = record {
   arcs = λ held rs are. are;
 }
 
-pub quick_search-requires-clause-back : goal.quick_search-requires-clause-back
-quick_search-requires-clause-back c = c.loop.invariant.back
-
-pub quick_search-requires-clause-little : goal.quick_search-requires-clause-little
-quick_search-requires-clause-little c = c.loop.invariant.little
+pub quick_search-requires-clause-network : goal.quick_search-requires-clause-network
+quick_search-requires-clause-network c =
+    let many = length c.loop.arcs in
+    record {
+      back = c.loop.invariant.back;
+      little = c.loop.invariant.little;
+      places = c.loop.invariant.room.count;
+      later = subst (λ (l : List ℕ). (length l ≡ many) × ((node : ℕ) → node < many → slice_index l node < many)) (sym c.as_slice-in-loop.ensures.value) c.loop.invariant.later;
+    }
 
 pub quick_search-requires-clause-calm : goal.quick_search-requires-clause-calm
 quick_search-requires-clause-calm c = c.loop.invariant.calm
@@ -30,11 +34,6 @@ quick_search-requires-clause-calm c = c.loop.invariant.calm
 pub quick_search-requires-clause-low : goal.quick_search-requires-clause-low
 quick_search-requires-clause-low c =
     low_from_last c.loop.room c.loop.arcs (length c.args.arcs.now) (slice_index c.loop.heights (length c.args.arcs.now)) (sym c.loop.invariant.many) c.loop.invariant.low
-
-pub quick_search-requires-clause-later : goal.quick_search-requires-clause-later
-quick_search-requires-clause-later c =
-    let many = length c.loop.arcs in
-    subst (λ (l : List ℕ). (length l ≡ many) × ((node : ℕ) → node < many → slice_index l node < many)) (sym c.as_slice-in-loop.ensures.value) c.loop.invariant.later
 
 pub augment-requires-clause-back : goal.augment-requires-clause-back
 augment-requires-clause-back c = c.loop.invariant.back
@@ -44,12 +43,12 @@ augment-requires-clause-little c = c.loop.invariant.little
 
 pub augment-requires-clause-search : goal.augment-requires-clause-search
 augment-requires-clause-search c =
-    let found = c.in_ok-steps.ensures.steps in (
+    let found = c.in_ok-steps.ensures.found.steps in (
       c.quick_search.new.heights,
       found.0,
       c.loop.counter + 1,
       omega (arith, c.requires.count, c.loop-test.true),
-      c.in_ok-steps.ensures.calm,
+      c.in_ok-steps.ensures.found.calm,
       subst (λ (l : List (Option Step)). IsSearch c.quick_search.new.heights c.loop.room c.loop.arcs l 0 found.0) (sym c.deref.ensures.value) found.1,
       room_from_last c.loop.counter (length c.args.arcs.now) c.loop.room c.loop.arcs (omega (arith, c.loop.invariant.many)) c.loop.invariant.room,
     )
@@ -57,15 +56,15 @@ augment-requires-clause-search c =
 pub loop-preserved : goal.loop-preserved
 loop-preserved c =
     let hs = c.quick_search.new.heights in
-    let calm = c.in_ok-steps.ensures.calm in
-    let count = c.in_ok-steps.ensures.steps.0 in
+    let calm = c.in_ok-steps.ensures.found.calm in
+    let count = c.in_ok-steps.ensures.found.steps.0 in
     let last = length c.args.arcs.now in
-    let found = subst (λ (l : List (Option Step)). IsSearch hs c.loop.room c.loop.arcs l 0 count) (sym c.deref.ensures.value) c.in_ok-steps.ensures.steps.1 in
+    let found = subst (λ (l : List (Option Step)). IsSearch hs c.loop.room c.loop.arcs l 0 count) (sym c.deref.ensures.value) c.in_ok-steps.ensures.found.steps.1 in
     let turned = c.augment.ensures.turned hs count (c.loop.counter + 1) calm found (room_from_last c.loop.counter last c.loop.room c.loop.arcs (omega (arith, c.loop.invariant.many)) c.loop.invariant.room) in
     let many : length c.augment.new.arcs ≡ length c.loop.arcs = omega (arith, calm.count, turned.0.count) in
     record {
       calm = turned.0;
-      low = omega (arith, c.in_ok-steps.ensures.target, c.loop.invariant.low);
+      low = omega (arith, c.in_ok-steps.ensures.found.target, c.loop.invariant.low);
       back = c.augment.ensures.back;
       little = c.augment.ensures.little;
       many = omega (arith, many, c.loop.invariant.many);
@@ -86,10 +85,15 @@ pub returns-clause-small : goal.returns-clause-small
 returns-clause-small c =
     low_from_last c.loop.room c.loop.arcs (length c.args.arcs.now) (slice_index c.loop.heights (length c.args.arcs.now)) (sym c.loop.invariant.many) c.loop.invariant.low c.loop.heights c.loop.invariant.calm refl
 
-pub settle-requires-clause-small : goal.settle-requires-clause-small
-settle-requires-clause-small c = λ node below. omega (arith, low_from_last c.args.room.now c.args.arcs.now (length c.args.arcs.now) (slice_index c.args.heights.now (length c.args.arcs.now)) refl c.requires.low c.args.heights.now c.requires.calm refl node below)
+pub raise_by_distances-requires-clause-small : goal.raise_by_distances-requires-clause-small
+raise_by_distances-requires-clause-small c = λ node below. omega (arith, low_from_last c.args.room.now c.args.arcs.now (length c.args.arcs.now) (slice_index c.args.heights.now (length c.args.arcs.now)) refl c.requires.low c.args.heights.now c.requires.calm refl node below)
 
-pub settle-requires-clause-later : goal.settle-requires-clause-later
-settle-requires-clause-later c =
+pub raise_by_distances-requires-clause-network : goal.raise_by_distances-requires-clause-network
+raise_by_distances-requires-clause-network c =
     let many = length c.args.arcs.now in
-    subst (λ (l : List ℕ). (length l ≡ many) × ((node : ℕ) → node < many → slice_index l node < many)) (sym c.as_slice.ensures.value) (c.in_ok-later.ensures.long, c.in_ok-later.ensures.within)
+    record {
+      back = c.requires.back;
+      little = c.requires.little;
+      places = c.requires.room.count;
+      later = subst (λ (l : List ℕ). (length l ≡ many) × ((node : ℕ) → node < many → slice_index l node < many)) (sym c.as_slice.ensures.value) (c.in_ok-later.ensures.long, c.in_ok-later.ensures.within);
+    }

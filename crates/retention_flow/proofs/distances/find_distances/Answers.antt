@@ -3,7 +3,7 @@ use Rattle.retention_flow.specs.declared.steps.Step.{Step}
 use Rattle.retention_flow.specs.declared.steps.ResidualArc.TheVariants as residuals
 use Rattle.retention_flow.specs.Network.{is_reached}
 use Rattle.retention_flow.proofs.SearchGoesOn.{fewer_unreached}
-use Rattle.retention_flow.proofs.settling.find_distances.Goals as goal
+use Rattle.retention_flow.proofs.distances.find_distances.Goals as goal
 
 pub loop-node-smaller : goal.loop-node-smaller
 loop-node-smaller c =

@@ -1,5 +1,5 @@
 use Rattle.std.proofs.Common.{◌≡◌, length}
-use Rattle.retention_flow.proofs.settling.nearer_raised.Given as goal
+use Rattle.retention_flow.proofs.distances.nearer_raised.Given as goal
 
 abbrev pub invariant-loop-node : goal.invariant-loop-node
 invariant-loop-node l = length l.raised.items ≡ l.node

@@ -14,12 +14,12 @@ pub over_arc-requires-clause-calm : goal.over_arc-requires-clause-calm
 over_arc-requires-clause-calm c =
     let node = c.loop-node.node in
     let same : 0 + node ≡ node = omega arith in
-    subst (λ (n : ℕ). IsCalmArc c.args.heights.now n (arc_at c.args.arcs.now node)) same (calm_at c.args.heights.now 0 node c.args.arcs.now c.requires.calm.calm c.loop-node-test.true)
+    subst (λ (n : ℕ). IsCalmArc c.args.heights.now n (arc_at c.args.network.now.arcs.now node)) same (calm_at c.args.heights.now 0 node c.args.network.now.arcs.now c.requires.calm.calm c.loop-node-test.true)
 
 pub loop-node-preserved : goal.loop-node-preserved
 loop-node-preserved c =
-    let arcs = c.args.arcs.now in
-    let P : Leaving → Type 0 = Leaves c.args.heights.now c.args.room.now arcs c.args.steps.now in
+    let arcs = c.args.network.now.arcs.now in
+    let P : Leaving → Type 0 = Leaves c.args.heights.now c.args.network.now.room.now arcs c.args.steps.now in
     let first : IfSome c.lesser-least.result P = either_some P c.loop-node.least c.over_place.result c.lesser-least.result c.lesser-least.ensures.either c.loop-node.invariant.leaves (c.over_place.ensures.leaves arcs c.loop-node-test.true) in
     record {
       slack = λ by few node below.
@@ -29,10 +29,10 @@ loop-node-preserved c =
             | inl before ↦ c.loop-node.invariant.slack by one.0 node before
             | inr beyond ↦
                 let here : c.loop-node.node ≡ node = omega arith in
-                subst (λ (n : ℕ). IsSlackAt c.args.heights.now c.args.room.now arcs (is_reached c.args.steps.now) by n) here
+                subst (λ (n : ℕ). IsSlackAt c.args.heights.now c.args.network.now.room.now arcs (is_reached c.args.steps.now) by n) here
                 (c.over_place.ensures.right by one.1, c.over_place.ensures.left by one.1, c.over_arc.ensures.slack by two.1)
           ];
-      leaves = either_some P c.lesser-least.result c.over_arc.result c.lesser-least-in-loop-node.result c.lesser-least-in-loop-node.ensures.either first (c.over_arc.ensures.leaves c.args.room.now);
+      leaves = either_some P c.lesser-least.result c.over_arc.result c.lesser-least-in-loop-node.result c.lesser-least-in-loop-node.ensures.either first (c.over_arc.ensures.leaves c.args.network.now.room.now);
     }
 
 pub returns-clause-slack : goal.returns-clause-slack

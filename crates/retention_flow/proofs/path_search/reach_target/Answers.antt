@@ -9,6 +9,6 @@ pub loop-init : goal.loop-init
 loop-init c = record {
   calm = c.requires.calm;
   target = refl;
-  grows = some_reached c.args.heights.now c.args.room.now c.args.arcs.now c.spread.new.steps c.args.ends.source (length c.spread.new.order.items) c.in_ok-spread.ensures.spread.found;
+  grows = some_reached c.args.heights.now c.args.network.now.room.now c.args.network.now.arcs.now c.spread.new.steps c.args.ends.source (length c.spread.new.order.items) c.in_ok-spread.ensures.spread.found;
   spread = c.in_ok-spread.ensures.spread;
 }

@@ -1,9 +1,6 @@
-use Rattle.std.proofs.Common.{sym, ◌∙◌}
+use Rattle.std.proofs.Common.{◌∙◌}
 use Rattle.retention_flow.proofs.PlanIsAccepted.{found_are, found_calm, found_few, found_save, room_here}
 use Rattle.retention_flow.proofs.planning.plan.Goals as goal
-
-pub find_room-requires-clause-most : goal.find_room-requires-clause-most
-find_room-requires-clause-most c = found_few c.args.held.now c.args.requests.now c.deref.result.now (c.deref.ensures.value ∙ c.in_ok-arcs.ensures.arcs) c.requires.requests
 
 pub plan_by_taking-requires-clause-most : goal.plan_by_taking-requires-clause-most
 plan_by_taking-requires-clause-most c = found_few c.args.held.now c.args.requests.now c.deref_mut-then-taken-slots.result.now (c.deref_mut-then-taken-slots.ensures.value ∙ c.in_ok-arcs.ensures.arcs) c.requires.requests
@@ -13,7 +10,7 @@ plan_by_taking-requires-clause-calm c = found_calm c.args.held.now c.args.reques
 
 pub plan_by_taking-requires-clause-room : goal.plan_by_taking-requires-clause-room
 plan_by_taking-requires-clause-room c =
-    room_here c.in_ok-room.taken c.deref_mut.result.now c.in_ok-room.room.items c.deref_mut-then-taken-slots.result.now c.deref.result.now c.deref_mut.ensures.value (c.deref_mut-then-taken-slots.ensures.value ∙ sym c.deref.ensures.value) c.in_ok-room.ensures.0
+    room_here _ c.deref_mut.result.now _ c.deref_mut-then-taken-slots.result.now _ c.deref_mut.ensures.value c.deref_mut-then-taken-slots.ensures.value c.in_ok-arcs.ensures.room.0
 
 pub returns-then-taken-slots : goal.returns-then-taken-slots
 returns-then-taken-slots c = record { accepted = c.in_ok-plan_by_taking.ensures c.args.held.now c.args.requests.now (found_are c.args.held.now c.args.requests.now c.deref_mut-then-taken-slots.result.now (c.deref_mut-then-taken-slots.ensures.value ∙ c.in_ok-arcs.ensures.arcs)) }

@@ -15,15 +15,15 @@ loop-index-preserved c = elim c.if-from-node.branch [
       let items : c.if-from-node.order.items ≡ w.reach_over_arc.new.order.items = ap (λ v. v.items) w.order-is in
       record {
         grows = omega (arith, ap (λ (l : List ℕ). length l) items, w.in_ok-reach_over_arc.ensures.grows, c.loop-index.invariant.grows);
-        spread = λ room source spread.
-            moved c.args.heights.now room c.args.arcs.now w.reach_over_arc.new.steps c.if-from-node.steps source w.reach_over_arc.new.order.items c.if-from-node.order.items w.steps-is items
-            (w.in_ok-reach_over_arc.ensures.spread room source (c.loop-index.invariant.spread room source spread));
+        spread = λ source spread.
+            moved c.args.heights.now c.args.network.now.room.now c.args.network.now.arcs.now w.reach_over_arc.new.steps c.if-from-node.steps source w.reach_over_arc.new.order.items c.if-from-node.order.items w.steps-is items
+            (w.in_ok-reach_over_arc.ensures.spread source (c.loop-index.invariant.spread source spread));
       }
   | else-from-node w ↦
       let items : c.if-from-node.order.items ≡ c.loop-index.order.items = ap (λ v. v.items) w.order-is in
       record {
         grows = omega (arith, ap (λ (l : List ℕ). length l) items, c.loop-index.invariant.grows);
-        spread = λ room source spread.
-            moved c.args.heights.now room c.args.arcs.now c.loop-index.steps c.if-from-node.steps source c.loop-index.order.items c.if-from-node.order.items w.steps-is items (c.loop-index.invariant.spread room source spread);
+        spread = λ source spread.
+            moved c.args.heights.now c.args.network.now.room.now c.args.network.now.arcs.now c.loop-index.steps c.if-from-node.steps source c.loop-index.order.items c.if-from-node.order.items w.steps-is items (c.loop-index.invariant.spread source spread);
       }
 ]

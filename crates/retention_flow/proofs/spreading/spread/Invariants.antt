@@ -6,8 +6,8 @@ abbrev pub invariant-loop-index : goal.invariant-loop-index
 invariant-loop-index l = record {
   index : l.index ≤ length l.order.items;
   grows : length l.fn.order.items ≤ length l.order.items;
-  spread : IsSpread l.heights l.room l.arcs l.steps l.ends.source l.order.items;
+  spread : IsSpread l.heights l.network.room.now l.network.arcs.now l.steps l.ends.source l.order.items;
 }
 
 abbrev pub decreases-loop-index : goal.decreases-loop-index
-decreases-loop-index l = length l.arcs + 1 - l.index
+decreases-loop-index l = length l.network.arcs.now + 1 - l.index

@@ -18,11 +18,15 @@ loop-init c = record {
   arcs = λ held rs are. are;
 }
 
-pub search-requires-clause-back : goal.search-requires-clause-back
-search-requires-clause-back c = c.loop.invariant.back
-
-pub search-requires-clause-little : goal.search-requires-clause-little
-search-requires-clause-little c = c.loop.invariant.little
+pub search-requires-clause-network : goal.search-requires-clause-network
+search-requires-clause-network c =
+    let many = length c.loop.arcs in
+    record {
+      back = c.loop.invariant.back;
+      little = c.loop.invariant.little;
+      places = (c.loop.invariant.room c.requires.room.0 c.requires.room.3).count;
+      later = subst (λ (l : List ℕ). (length l ≡ many) × ((node : ℕ) → node < many → slice_index l node < many)) (sym c.as_slice.ensures.value) c.loop.invariant.later;
+    }
 
 pub search-requires-clause-calm : goal.search-requires-clause-calm
 search-requires-clause-calm c = c.loop.invariant.calm
@@ -31,11 +35,6 @@ pub search-requires-clause-low : goal.search-requires-clause-low
 search-requires-clause-low c =
     let r = c.requires.room in
     low_from_first (r.0 - c.loop.counter) c.loop.room c.loop.arcs (slice_index c.loop.heights 0) c.loop.invariant.first (omega (arith, c.requires.most, c.loop.invariant.many)) (omega (arith, r.1, c.loop-test.true)) (c.loop.invariant.room r.0 r.3) c.loop.invariant.back c.loop.invariant.little
-
-pub search-requires-clause-later : goal.search-requires-clause-later
-search-requires-clause-later c =
-    let many = length c.loop.arcs in
-    subst (λ (l : List ℕ). (length l ≡ many) × ((node : ℕ) → node < many → slice_index l node < many)) (sym c.as_slice.ensures.value) c.loop.invariant.later
 
 pub augment-requires-clause-back : goal.augment-requires-clause-back
 augment-requires-clause-back c = c.loop.invariant.back
@@ -46,12 +45,12 @@ augment-requires-clause-little c = c.loop.invariant.little
 pub augment-requires-clause-search : goal.augment-requires-clause-search
 augment-requires-clause-search c =
     let r = c.requires.room in
-    let found = c.in_ok-steps.ensures.steps in (
+    let found = c.in_ok-steps.ensures.found.steps in (
       c.search.new.heights,
       found.0,
       r.0 - c.loop.counter,
       omega (arith, r.2),
-      c.in_ok-steps.ensures.calm,
+      c.in_ok-steps.ensures.found.calm,
       subst (λ (l : List (Option Step)). IsSearch c.search.new.heights c.loop.room c.loop.arcs l (length c.args.arcs.now) found.0) (sym c.deref.ensures.value) found.1,
       room_from_first (r.0 - c.loop.counter) c.loop.room c.loop.arcs (c.loop.invariant.room r.0 r.3),
     )
@@ -60,19 +59,19 @@ pub loop-preserved : goal.loop-preserved
 loop-preserved c =
     let r = c.requires.room in
     let hs = c.search.new.heights in
-    let calm = c.in_ok-steps.ensures.calm in
-    let count = c.in_ok-steps.ensures.steps.0 in
+    let calm = c.in_ok-steps.ensures.found.calm in
+    let count = c.in_ok-steps.ensures.found.steps.0 in
     let last = length c.args.arcs.now in
-    let found = subst (λ (l : List (Option Step)). IsSearch hs c.loop.room c.loop.arcs l last count) (sym c.deref.ensures.value) c.in_ok-steps.ensures.steps.1 in
+    let found = subst (λ (l : List (Option Step)). IsSearch hs c.loop.room c.loop.arcs l last count) (sym c.deref.ensures.value) c.in_ok-steps.ensures.found.steps.1 in
     let turned = c.augment.ensures.turned hs count in
     let one = turned (r.0 - c.loop.counter) calm found (room_from_first (r.0 - c.loop.counter) c.loop.room c.loop.arcs (c.loop.invariant.room r.0 r.3)) in
     let many : length c.augment.new.arcs ≡ length c.loop.arcs = omega (arith, calm.count, one.0.count) in
     record {
       calm = one.0;
       later = (omega (arith, c.loop.invariant.later.0), λ node below. omega (arith, c.loop.invariant.later.1 node (omega arith)));
-      first = c.in_ok-steps.ensures.target ∙ c.loop.invariant.first;
+      first = c.in_ok-steps.ensures.found.target ∙ c.loop.invariant.first;
       small = low_from_first (r.0 - c.loop.counter) c.loop.room c.loop.arcs (slice_index c.loop.heights 0) c.loop.invariant.first (omega (arith, c.requires.most, c.loop.invariant.many)) (omega (arith, r.1, c.loop-test.true)) (c.loop.invariant.room r.0 r.3) c.loop.invariant.back c.loop.invariant.little
-          hs calm c.in_ok-steps.ensures.target;
+          hs calm c.in_ok-steps.ensures.found.target;
       back = c.augment.ensures.back;
       little = c.augment.ensures.little;
       many = omega (arith, many, c.loop.invariant.many);
