@@ -1,5 +1,5 @@
--- The first row to end of a walk over all rows is the first to end.
-use Rattle.std.proofs.Common.{◌≡◌, ◌⊎◌, ℕ, zero, ◌+◌, ◌<◌, ◌≤◌, Bool, true, false, List, [], ◌∷◌, length, Option, Some, None, IfSome, option_map, refl, sym, ap, ◌∙◌, subst, arith, inl, inr, drop, get_or, suc}
+-- Which row is the first to end.
+use Rattle.std.proofs.Common.{◌≡◌, ◌⊎◌, ℕ, suc, ◌+◌, ◌<◌, ◌≤◌, Bool, true, false, List, [], ◌∷◌, ◌++◌, length, take, get_or, Option, Some, None, IfSome, option_map, refl, sym, ap, ◌∙◌, subst, arith, inl, inr, append_assoc}
 use Rattle.std.specs.Prelude.{is_some, nat_lt}
 use Rattle.std.specs.List.{AllByRecursion}
 use Rattle.std.specs.List.Sorted.{IsStrictlySortedBy}
@@ -10,13 +10,12 @@ use Rattle.std.specs.Ordering.{is_gt, is_lt, ordering_reverse}
 use Rattle.std.specs.Cmp.{IsTotalOrder, nat_cmp_total, on_total, then_total}
 use Rattle.std.proofs.lemmas.Bool.{lt-ltb}
 use Rattle.std.proofs.lemmas.Cmp.{tied_itself}
-use Rattle.std.proofs.lemmas.List.{drop_more}
+use Rattle.std.proofs.lemmas.List.{append-nil, take_all, take_more}
 use Rattle.table_types.specs.declared.key.Key.{Key}
 use Rattle.table_types.specs.Keys.{key_cmp}
 use Rattle.table_types.specs.KeyOrder.{key_cmp_total}
 use Rattle.table_types.specs.Rows.{StoredRow}
-use Rattle.table_rows.specs.Rows.{IsFirstToEnd, end_cmp, ends_cmp, row_at}
-use Rattle.table_rows.specs.FirstToEnd.{first_among, first_of}
+use Rattle.table_rows.specs.Rows.{IsFirstOf, IsFirstToEnd, end_cmp, ends_cmp, row_at}
 
 -- ---- the order in which rows end is total
 
@@ -95,43 +94,11 @@ not_less a b holds = ap is_gt (end_cmp_total.antisymm a b) ∙ turned (end_cmp b
     turned Equal = refl
     turned Greater = refl
 
--- ---- a walk over the rows
+-- ---- one of some rows
 
-abbrev IsOne : Key × StoredRow → List (Key × StoredRow) → Type 0
+abbrev pub IsOne : Key × StoredRow → List (Key × StoredRow) → Type 0
 IsOne e [] = ⊥
 IsOne e (x ∷ xs) = (e ≡ x) ⊎ IsOne e xs
-
--- the walk over these rows finds one of them that comes after none of them
-record Finds (first : Key × StoredRow) (rest : List (Key × StoredRow)) (e : Key × StoredRow) : Type 0 where
-  pub walked : first_among (Some first) rest ≡ Some e
-  pub one : IsOne e (first ∷ rest)
-  pub not_after : AllByRecursion (IsNotAfter e) (first ∷ rest)
-
-further : (e f x : Key × StoredRow) (xs : List (Key × StoredRow)) → IsOne e (f ∷ xs) → IsOne e (f ∷ x ∷ xs)
-further e f x xs (inl here) = inl here
-further e f x xs (inr later) = inr (inr later)
-
-finds : (f : Key × StoredRow) (es : List (Key × StoredRow)) → (e : Key × StoredRow) × Finds f es e
-finds f [] = (f, record { walked = refl; one = inl refl; not_after = (not_after_itself f, tt) })
-finds f (x ∷ xs) = by (is_lt (end_cmp x f)) refl (finds x xs) (finds f xs)
-  where
-    by : (b : Bool) → is_lt (end_cmp x f) ≡ b → ((e : Key × StoredRow) × Finds x xs e) → ((e : Key × StoredRow) × Finds f xs e) → (e : Key × StoredRow) × Finds f (x ∷ xs) e
-    by true is (e, found) other = (
-      e,
-      record {
-        walked = rw is found.walked;
-        one = inr found.one;
-        not_after = (not_after_later e x f found.not_after.0 (less_not_after x f is), found.not_after);
-      },
-    )
-    by false is other (e, found) = (
-      e,
-      record {
-        walked = rw is found.walked;
-        one = further e f x xs found.one;
-        not_after = (found.not_after.0, (not_after_later e f x found.not_after.0 (not_less f x is), found.not_after.1));
-      },
-    )
 
 above_one : (least : Key) (e : Key × StoredRow) (es : List (Key × StoredRow)) → AllByRecursion (λ q. key_cmp least q ≡ Less) (keys_of es) → IsOne e es → key_cmp least e.0 ≡ Less
 above_one least e [] above one = absurd one
@@ -147,60 +114,82 @@ row_of_one e (x ∷ xs) rising (inr later) =
     let greater : key_cmp e.0 x.0 ≡ Greater = key_cmp_total.antisymm e.0 x.0 ∙ ap ordering_reverse (above_one x.0 e xs rising.0 later) in
     rw greater (row_of_one e xs rising.1 later)
 
-same_entry : (a b : Key × StoredRow) → ◌≡◌ {A = Option (Key × StoredRow)} (Some a) (Some b) → a ≡ b
-same_entry a b e = cc
+-- ---- the first to end of some rows
 
--- what a walk over all rows finds is the first to end
-pub first_to_end : (rows : List (Key × StoredRow)) (key : Key) (row : StoredRow) → IsStrictlySortedBy key_cmp (keys_of rows) → Some (key, row) ≡ first_among None rows → IsFirstToEnd rows key
-first_to_end [] key row rising is = absurd cc
-first_to_end (f ∷ fs) key row rising is =
-    let (e, found) = finds f fs in
-    let same : e ≡ (key, row) = same_entry e (key, row) (sym (is ∙ found.walked)) in
-    subst (IsFirstOf (f ∷ fs)) same (found_first e found.one found.not_after)
+-- one of them, which comes after none of them; or there are none
+abbrev pub IsFirst : List (Key × StoredRow) → Option (Key × StoredRow) → Type 0
+IsFirst rows None = rows ≡ []
+IsFirst rows (Some e) = IsOne e rows × AllByRecursion (IsNotAfter e) rows
+
+one_more : (e x : Key × StoredRow) (rows : List (Key × StoredRow)) → IsOne e rows → IsOne e (rows ++ x ∷ [])
+one_more e x [] one = absurd one
+one_more e x (y ∷ ys) (inl here) = inl here
+one_more e x (y ∷ ys) (inr later) = inr (one_more e x ys later)
+
+last_one : (e : Key × StoredRow) (rows : List (Key × StoredRow)) → IsOne e (rows ++ e ∷ [])
+last_one e [] = inl refl
+last_one e (y ∷ ys) = inr (last_one e ys)
+
+before_all : (e first : Key × StoredRow) (rows : List (Key × StoredRow)) → IsNotAfter e first → AllByRecursion (IsNotAfter first) rows → AllByRecursion (IsNotAfter e) rows
+before_all e first [] here all = tt
+before_all e first (y ∷ ys) here (next, all) = (not_after_later e first y here next, before_all e first ys here all)
+
+before_more : (e x : Key × StoredRow) (rows : List (Key × StoredRow)) → AllByRecursion (IsNotAfter e) rows → IsNotAfter e x → AllByRecursion (IsNotAfter e) (rows ++ x ∷ [])
+before_more e x [] all here = (here, tt)
+before_more e x (y ∷ ys) (next, all) here = (next, before_more e x ys all here)
+
+-- of one row more, the one of the first so far and the next that doesn't come after the other
+pub first_more : (rows : List (Key × StoredRow)) (first : Option (Key × StoredRow)) (x e : Key × StoredRow) → IsFirst rows first → IsFirstOf first x e → IsFirst (rows ++ x ∷ []) (Some e)
+first_more rows None x e none is =
+    (subst (λ (y : Key × StoredRow). IsOne y (rows ++ x ∷ [])) (sym is) (last_one x rows), before_more e x rows (subst (AllByRecursion (IsNotAfter e)) (sym none) tt) (subst (λ (y : Key × StoredRow). IsNotAfter y x) (sym is) (not_after_itself x)))
+first_more rows (Some f) x e (one, all) (either, before, not_after) = (chosen either, before_more e x rows (before_all e f rows before all) not_after)
   where
-    IsFirstOf : List (Key × StoredRow) → Key × StoredRow → Type 0
-    IsFirstOf rows x = IsFirstToEnd rows x.0
+    chosen : (e ≡ f) ⊎ (e ≡ x) → IsOne e (rows ++ x ∷ [])
+    chosen (inl same) = subst (λ (y : Key × StoredRow). IsOne y (rows ++ x ∷ [])) (sym same) (one_more f x rows one)
+    chosen (inr same) = subst (λ (y : Key × StoredRow). IsOne y (rows ++ x ∷ [])) (sym same) (last_one x rows)
 
-    found_first : (x : Key × StoredRow) → IsOne x (f ∷ fs) → AllByRecursion (IsNotAfter x) (f ∷ fs) → IsFirstToEnd (f ∷ fs) x.0
-    found_first x one not_after = (x.1, row_of_one x (f ∷ fs) rising one, not_after)
-
-some_first : (f : Key × StoredRow) (es : List (Key × StoredRow)) → is_some (first_among (Some f) es) ≡ true
-some_first f [] = refl
-some_first f (x ∷ xs) = some_first (first_of (Some f) x) xs
-
--- a walk finds a row exactly if there are rows
-pub some_among : (rows : List (Key × StoredRow)) → is_some (first_among None rows) ≡ nat_lt 0 (length rows)
-some_among [] = refl
-some_among (e ∷ es) = some_first e es ∙ sym (lt-ltb 0 (suc (length es)) (omega arith))
-
--- a walk goes on by one row
-pub goes_on : (first : Option (Key × StoredRow)) (rows : List (Key × StoredRow)) (i : ℕ) (e : Key × StoredRow) → i < length rows → e ≡ get_or rows i e
-    → first_among first (drop i rows) ≡ first_among (Some (first_of first e)) (drop (i + 1) rows)
-goes_on first rows i e within is = ap (first_among first) (drop_more rows i e within ∙ ap (λ (x : Key × StoredRow). x ∷ drop (i + 1) rows) (sym is))
-
-some_mapped : {A B : Type 0} (f : A → B) (o : Option A) → is_some (option_map f o) ≡ is_some o
-some_mapped f None = refl
-some_mapped f (Some a) = refl
-
--- the key of what a walk over all rows finds
+-- the key of the first of all rows
 pub key_found : {A : Type 0} (entry : A → Key × StoredRow) (found : Option A) (key : Option Key) (rows : List (Key × StoredRow)) → IsStrictlySortedBy key_cmp (keys_of rows)
-    → key ≡ option_map (λ a. (entry a).0) found → option_map entry found ≡ first_among None rows → IfSome key (IsFirstToEnd rows)
-key_found entry None key rows rising is walked = subst (λ (o : Option Key). IfSome o (IsFirstToEnd rows)) (sym is) tt
-key_found entry (Some a) key rows rising is walked = subst (λ (o : Option Key). IfSome o (IsFirstToEnd rows)) (sym is) (first_to_end rows (entry a).0 (entry a).1 rising walked)
+    → key ≡ option_map (λ a. (entry a).0) found → IsFirst rows (option_map entry found) → IfSome key (IsFirstToEnd rows)
+key_found entry None key rows rising is none = subst (λ (o : Option Key). IfSome o (IsFirstToEnd rows)) (sym is) tt
+key_found entry (Some a) key rows rising is (one, all) =
+    subst (λ (o : Option Key). IfSome o (IsFirstToEnd rows)) (sym is) ((entry a).1, row_of_one (entry a) rows rising one, all)
+
+has_one : (e : Key × StoredRow) (rows : List (Key × StoredRow)) → IsOne e rows → nat_lt 0 (length rows) ≡ true
+has_one e [] one = absurd one
+has_one e (x ∷ xs) one = lt-ltb 0 (suc (length xs)) (omega arith)
 
 -- and whether there is one
-pub any_found : {A : Type 0} (entry : A → Key × StoredRow) (found : Option A) (some : Bool) (rows : List (Key × StoredRow)) → some ≡ is_some found → option_map entry found ≡ first_among None rows → some ≡ nat_lt 0 (length rows)
-any_found entry found some rows is walked = is ∙ sym (some_mapped entry found) ∙ ap is_some walked ∙ some_among rows
+pub any_found : {A : Type 0} (entry : A → Key × StoredRow) (found : Option A) (some : Bool) (rows : List (Key × StoredRow)) → some ≡ is_some found → IsFirst rows (option_map entry found) → some ≡ nat_lt 0 (length rows)
+any_found entry None some rows is none = is ∙ ap (λ (l : List (Key × StoredRow)). nat_lt 0 (length l)) (sym none)
+any_found entry (Some a) some rows is (one, all) = is ∙ sym (has_one (entry a) rows one)
 
-drop_past : (rows : List (Key × StoredRow)) (i : ℕ) → length rows ≤ i → drop i rows ≡ []
-drop_past [] i past = by i
-  where
-    by : (n : ℕ) → ◌≡◌ {A = List (Key × StoredRow)} (drop n []) []
-    by zero = refl
-    by (suc n) = refl
-drop_past (e ∷ es) zero past = absurd (omega (arith, past))
-drop_past (e ∷ es) (suc i) past = drop_past es i (omega (arith, past))
+-- ---- of two rows
 
--- the walk has come to the end
-pub walked_all : (found : Option (Key × StoredRow)) (rows : List (Key × StoredRow)) (i : ℕ) → length rows ≤ i → first_among found (drop i rows) ≡ first_among None rows → found ≡ first_among None rows
-walked_all found rows i past before = sym (ap (first_among found) (drop_past rows i past)) ∙ before
+pub earlier : (f x : Key × StoredRow) → is_lt (end_cmp x f) ≡ true → IsFirstOf (Some f) x x
+earlier f x less = (inr refl, less_not_after x f less, not_after_itself x)
+
+pub not_earlier : (f x : Key × StoredRow) → is_lt (end_cmp x f) ≡ false → IsFirstOf (Some f) x f
+not_earlier f x less = (inl refl, not_after_itself f, not_less f x less)
+
+-- ---- a walk over the rows of a list, and of a map
+
+-- a walk that has come to an index has found the first of the rows before it
+pub next_taken : (rows : List (Key × StoredRow)) (i : ℕ) (first : Option (Key × StoredRow)) (x e : Key × StoredRow) → i < length rows → x ≡ get_or rows i x → IsFirstOf first x e → IsFirst (take i rows) first → IsFirst (take (i + 1) rows) (Some e)
+next_taken rows i first x e within at is found =
+    subst (λ (l : List (Key × StoredRow)). IsFirst l (Some e)) (sym (take_more rows i x within ∙ ap (λ (y : Key × StoredRow). take i rows ++ y ∷ []) (sym at))) (first_more (take i rows) first x e found is)
+
+pub all_taken : (rows : List (Key × StoredRow)) (i : ℕ) (first : Option (Key × StoredRow)) → length rows ≤ i → IsFirst (take i rows) first → IsFirst rows first
+all_taken rows i first past found = subst (λ (l : List (Key × StoredRow)). IsFirst l first) (take_all i rows past) found
+
+-- a walk that has these rows left has found the first of those before them
+abbrev pub IsFoundBefore : List (Key × StoredRow) → List (Key × StoredRow) → Option (Key × StoredRow) → Type 0
+IsFoundBefore left rows first = (passed : List (Key × StoredRow)) × (passed ++ left ≡ rows) × IsFirst passed first
+
+pub next_passed : (left rest rows : List (Key × StoredRow)) (first : Option (Key × StoredRow)) (x e : Key × StoredRow) → left ≡ x ∷ rest → IsFirstOf first x e → IsFoundBefore left rows first → IsFoundBefore rest rows (Some e)
+next_passed left rest rows first x e steps is (passed, whole, found) =
+    (passed ++ x ∷ [], append_assoc passed (x ∷ []) rest ∙ ap (λ (l : List (Key × StoredRow)). passed ++ l) (sym steps) ∙ whole, first_more passed first x e found is)
+
+pub all_passed : (left rows : List (Key × StoredRow)) (first : Option (Key × StoredRow)) → left ≡ [] → IsFoundBefore left rows first → IsFirst rows first
+all_passed left rows first none (passed, whole, found) =
+    subst (λ (l : List (Key × StoredRow)). IsFirst l first) (sym (append-nil passed) ∙ ap (λ (l : List (Key × StoredRow)). passed ++ l) (sym none) ∙ whole) found

@@ -1,6 +1,6 @@
 -- The rows of a table by key, and which of them is the first to end (HAProxy Configuration Manual, stick-table `size`
 -- and `expire`; that rows that end together are ordered by number is the profile's choice).
-use Rattle.std.specs.Prelude.{◌≡◌, ℕ, Bool, true, false, nat_lt, filter, List, Option, Some, None}
+use Rattle.std.specs.Prelude.{◌≡◌, ◌⊎◌, ℕ, Bool, true, false, nat_lt, filter, List, Option, Some, None}
 use Rattle.std.specs.List.{AllByRecursion}
 use Rattle.std.specs.declared.cmp.Ordering.{Ordering}
 use Rattle.std.specs.declared.cmp.Ordering.TheVariants.{Less, Equal, Greater}
@@ -48,6 +48,11 @@ ends_cmp None None = Equal
 -- with the smaller key
 abbrev pub end_cmp : Key × StoredRow → Key × StoredRow → Ordering
 end_cmp a b = ordering_then (ends_cmp a.1.ends b.1.ends) (ordering_then (nat_cmp a.1.number b.1.number) (key_cmp a.0 b.0))
+
+-- the first to end of two rows is one of them that doesn't come after the other; of a row alone it is that row
+abbrev pub IsFirstOf : Option (Key × StoredRow) → Key × StoredRow → Key × StoredRow → Type 0
+IsFirstOf None b e = e ≡ b
+IsFirstOf (Some a) b e = ((e ≡ a) ⊎ (e ≡ b)) × (is_gt (end_cmp e a) ≡ false) × (is_gt (end_cmp e b) ≡ false)
 
 -- the row of `key` is the first to end: no other comes before it
 abbrev pub IsFirstToEnd : List (Key × StoredRow) → Key → Type 0

@@ -4,8 +4,7 @@ ghost use Rattle.std.specs.Prelude.{◌≡◌, ◌<◌, ◌^◌, IfSome, is_some
 ghost use Rattle.std.specs.Ordering.{as_partial_cmp, is_lt};
 ghost use Rattle.std.specs.Cmp.{partial_order_from_agreeing_total};
 ghost use Rattle.table_rows.specs.Endings.{end_or_last, ending_of, later_cmp};
-ghost use Rattle.table_rows.specs.Rows.{end_cmp};
-ghost use Rattle.table_rows.specs.FirstToEnd.{first_of};
+ghost use Rattle.table_rows.specs.Rows.{IsFirstOf, end_cmp};
 ghost use Rattle.table_rows.specs.EndingOrder.{later_cmp_ties, later_cmp_total};
 
 use std::cmp::Ordering;
@@ -59,16 +58,20 @@ fn ends_before(key: &Key, row: &Row, other: &Key, other_row: &Row) -> bool
     }
 }
 
-/// Returns the first to end of the rows so far and the next row, or the next row if there are none so far.
+/// Returns the first to end of two rows, or the next row if there is no first one.
 pub(crate) fn first_of<'a>(
     first: Option<(&'a Key, &'a Row)>,
     next: (&'a Key, &'a Row),
 ) -> (&'a Key, &'a Row)
-    ensures { (result.0.now, result.1.now) ≡ first_of (option_map (λ e. (e.0.now, e.1.now)) first.entry) (next.entry.0.now, next.entry.1.now) }
+    ensures { IsFirstOf (option_map (λ e. (e.0.now, e.1.now)) first.entry) (next.entry.0.now, next.entry.1.now) (result.0.now, result.1.now) }
 {
-    match first {
-        Some((key, row)) if !ends_before(next.0, next.1, key, row) => (key, row),
-        _ => next,
+    let Some((key, row)) = first else {
+        return next;
+    };
+    if ends_before(next.0, next.1, key, row) {
+        next
+    } else {
+        (key, row)
     }
 }
 

@@ -1,7 +1,7 @@
-use Rattle.std.proofs.Common.{◌≡◌, None, drop, option_map}
-use Rattle.table_rows.specs.FirstToEnd.{first_among}
+use Rattle.std.proofs.Common.{take, option_map}
+use Rattle.table_rows.proofs.FirstLaws.{IsFirst}
 use Rattle.table_rows.proofs.list_rows.ListRowsRows.first_to_end.Given as goal
 
--- the first to end so far, and of the rest
+-- the first to end so far
 abbrev pub invariant-loop-entry : goal.invariant-loop-entry
-invariant-loop-entry l = first_among (option_map (λ e. (e.0.now, e.1.now)) l.first) (drop l.entry-index l.self) ≡ first_among None l.self
+invariant-loop-entry l = IsFirst (take l.entry-index l.self) (option_map (λ e. (e.0.now, e.1.now)) l.first)
