@@ -89,18 +89,6 @@ fn pieces_by(
     })
 }
 
-/// Returns the lesson's plan and what the learner knows after the lesson, if `next` has returned `None` or `append_next`
-/// false, and the pieces as they are otherwise.
-pub fn ended(pieces: Pieces) -> Result<(Plan, Known), Pieces>
-    ensures ended { IfOk result (λ end. (pieces.ended ≡ true) × (pieces.messages ≡ []) × (end.0 ≡ plan_left pieces) × (end.1 ≡ pieces.known)) }
-    ensures early { IfErr result (λ left. (pieces.ended ≡ false) × (left ≡ pieces)) }
-{
-    if !pieces.ended {
-        return Err(pieces);
-    }
-    Ok((pieces.plan, pieces.known))
-}
-
 impl Pieces {
     /// Plans the lesson that teaches the batch to a learner in the known state, and returns it as pieces, one for each
     /// message. Joined they are the bytes of the one lesson by their plan, so those that `teach` returns by the same plan;
@@ -176,8 +164,19 @@ impl Pieces {
         ensures ended { IfOk result (λ end. (self.ended ≡ true) × (self.messages ≡ []) × (end.0.items ≡ self.prices) × (end.1 ≡ self.known)) }
         ensures early { IfErr result (λ pieces. (self.ended ≡ false) × (pieces ≡ self)) }
     {
-        let (plan, known) = ended(self)?;
+        let (plan, known) = self.end_with_plan()?;
         let (_keep, prices) = plan.into_parts();
         Ok((prices, known))
+    }
+
+    /// Does the same as `end`, but returns the whole plan of the lesson.
+    pub(crate) fn end_with_plan(self) -> Result<(Plan, Known), Pieces>
+        ensures ended { IfOk result (λ end. (self.ended ≡ true) × (self.messages ≡ []) × (end.0 ≡ plan_left self) × (end.1 ≡ self.known)) }
+        ensures early { IfErr result (λ pieces. (self.ended ≡ false) × (pieces ≡ self)) }
+    {
+        if !self.ended {
+            return Err(self);
+        }
+        Ok((self.plan, self.known))
     }
 }

@@ -14,7 +14,7 @@ ghost use Rattle.teach_writer.specs.Pieces.{bytes_left, ends_from, plan_left};
 ghost use Rattle.teach_writer.specs.Planning.{IsLessonBy};
 
 use crate::lesson::{Lesson, TeachError};
-use crate::pieces::{Pieces, ended};
+use crate::pieces::Pieces;
 use known_state::Known;
 use std::alloc::Global;
 use table_types::{Batch, Items, Memory};
@@ -29,7 +29,7 @@ pub fn joined(alloc: Global, mut pieces: Pieces) -> Result<Lesson, Memory>
     while pieces.append_next(&mut bytes)? {
         ends.push(bytes.len())?;
     }
-    let Ok((plan, known)) = ended(pieces) else {
+    let Ok((plan, known)) = pieces.end_with_plan() else {
         unreachable!();
     };
     let (keep, prices) = plan.into_parts();
