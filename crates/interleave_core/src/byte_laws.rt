@@ -1,4 +1,4 @@
-//! Names and keys are bytes: calls that say so of a roster and of a batch, and the law of lessons that rests on that.
+//! Names and keys are bytes: laws of a roster, of a batch and of a lesson. A law of values goes over them, and changes nothing.
 
 ghost use Rattle.std.specs.Prelude.{ℕ, List};
 ghost use Rattle.std.specs.List.{AllByRecursion};
@@ -10,12 +10,12 @@ ghost use Rattle.interleave_core.specs.Bytes.{IsKeyOfBytes, IsNamedInBytes, IsOf
 
 use table_types::{Batch, Key, Roster, Update};
 
-/// Does nothing: a slice of bytes has bytes alone.
+/// Shows that the numbers of a slice of bytes are bytes.
 fn slice_is_bytes(bytes: &[u8])
     ensures { IsBytes bytes.now }
 {}
 
-/// Does nothing but look at the key.
+/// Shows that an address, a string or a binary key is bytes.
 fn key_is_bytes(key: &Key)
     ensures { IsKeyOfBytes key.now }
 {
@@ -27,7 +27,7 @@ fn key_is_bytes(key: &Key)
     }
 }
 
-/// Does nothing but look at the update's key and name.
+/// Shows that the key and the name of an update are bytes.
 fn update_is_bytes(update: &Update)
     ensures { IsOfBytes update.now }
 {
@@ -37,7 +37,7 @@ fn update_is_bytes(update: &Update)
     }
 }
 
-/// Does nothing but look at the tables of a roster: their names are bytes.
+/// Shows that the names of a roster's tables are bytes.
 pub fn a_roster_is_named_in_bytes(roster: &Roster)
     ensures { AllByRecursion IsNamedInBytes roster.now }
 {
@@ -46,7 +46,7 @@ pub fn a_roster_is_named_in_bytes(roster: &Roster)
     }
 }
 
-/// Does nothing but look at the updates of a batch: their keys and names are bytes.
+/// Shows that the keys and names of a batch's updates are bytes.
 pub fn a_batch_is_of_bytes(batch: &Batch)
     ensures { AllByRecursion IsOfBytes batch.now }
 {
@@ -55,7 +55,7 @@ pub fn a_batch_is_of_bytes(batch: &Batch)
     }
 }
 
-/// A shortest lesson is bytes if the names of the tables, and the keys and names of the batch, are.
+/// Shows that a shortest lesson is bytes if the names of the tables, and the keys and names of the batch, are.
 pub fn a_lesson_is_bytes()
     ensures { (known after : KnownState) (batch : List Update) (bytes : List ℕ) → AllByRecursion IsNamedInBytes known.roster → AllByRecursion IsOfBytes batch →
         IsShortestLesson known batch bytes after → IsBytes bytes }
