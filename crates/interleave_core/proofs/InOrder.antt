@@ -17,14 +17,14 @@ use Rattle.interleave_core.proofs.Beginning.{new_connections, new_is_open}
 use Rattle.interleave_core.proofs.CopiedSince.{rows_since}
 use Rattle.interleave_core.proofs.OpenWorlds.{a_step_keeps_open}
 use Rattle.interleave_core.proofs.Running.{LeadsOn, led}
-use Rattle.interleave_core.proofs.Spoken.{new_spoken, spoken_step}
+use Rattle.interleave_core.proofs.VersionsKept.{new_keeps, keeps_step}
 use Rattle.interleave_core.proofs.WorldNew.{new_world_sound}
 use Rattle.interleave_core.proofs.WorldSteps.{between_sound, run_sound, step_sound}
 use Rattle.interleave_core.proofs.WorldTold.{core_of}
 
 -- after a step
 pub in_order_next : (w e : WorldState) (step : Step) → IsTimelyStep step → Moves w step e → IsInOrder w → IsInOrder e
-in_order_next w e step timely moves order = record { opened = a_step_keeps_open w e step moves order.opened; sound = step_sound w e step timely order.sound moves; spoken = spoken_step w e step timely order.spoken moves }
+in_order_next w e step timely moves order = record { opened = a_step_keeps_open w e step moves order.opened; sound = step_sound w e step timely order.sound moves; versions = keeps_step w e step timely order.versions moves }
 
 -- ---- a run
 
@@ -77,4 +77,4 @@ new_in_order vs n cells tables connections least most opened connected few fault
     ∙ ap (λ (cs : List ConnectionState). world (map (with_sessions n vs) cells) cs) (connected ∙ ap (new_connections (roster_of cells)) (take_all n vs least))
     ∙ ap (λ (m : ℕ). world (map (with_sessions m vs) cells) (new_connections (roster_of cells) vs)) all in
     subst (λ (x : WorldState). IsInOrder x) (sym is)
-    (record { opened = new_is_open vs cells few begin; sound = new_world_sound cells vs few faultless sound begin; spoken = new_spoken cells vs begin })
+    (record { opened = new_is_open vs cells few begin; sound = new_world_sound cells vs few faultless sound begin; versions = new_keeps cells vs begin })

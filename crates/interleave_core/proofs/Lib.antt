@@ -35,5 +35,5 @@ pub mod CopiedSince
 pub mod WorldTracks
 pub mod StepsOnTrack
 pub mod WorldNew
-pub mod Spoken
+pub mod VersionsKept
 pub mod InOrder

@@ -279,9 +279,9 @@ stays w e (steps.Purge table now) other track moves = at_table _ table w e (λ c
 
 -- ---- a new world
 
-pub new_world : (cells : List CellState) (spoken : List Version) → roster_fault (roster_of cells) ≡ None
-    → AreOnTrack (record { cells = cells; connections = map (λ version. new_connection version (roster_of cells)) spoken })
-new_world cells spoken sound = each spoken
+pub new_world : (cells : List CellState) (versions : List Version) → roster_fault (roster_of cells) ≡ None
+    → AreOnTrack (record { cells = cells; connections = map (λ version. new_connection version (roster_of cells)) versions })
+new_world cells versions sound = each versions
   where
     each : (vs : List Version) → AllByRecursion (IsOnTrack (roster_of cells)) (map (λ version. new_connection version (roster_of cells)) vs)
     each [] = tt

@@ -11,4 +11,4 @@ pub mod Core
 pub mod Since
 pub mod Reopened
 pub mod Bytes
-pub mod Spoken
+pub mod Versions

@@ -4,7 +4,7 @@ use Rattle.std.specs.List.{AllByRecursion}
 use Rattle.table_cell.specs.Histories.{CellState, is_history_full, room_of}
 use Rattle.table_cell.specs.Machine.{close_refusal, open_refusal, progress_of}
 use Rattle.interleave_core.specs.SoundWorlds.{IsSoundWorld}
-use Rattle.interleave_core.specs.Spoken.{AreSpoken}
+use Rattle.interleave_core.specs.Versions.{KeepVersions}
 use Rattle.interleave_core.specs.Worlds.{WorldState, without_session}
 
 -- the sessions 1 to `count` are open in the table, and 16 sessions at most
@@ -20,7 +20,7 @@ IsOpenWorld w = AllByRecursion (HasOpen (length w.connections)) w.cells
 pub record IsInOrder (w : WorldState) : Type 0 where
   pub opened : IsOpenWorld w
   pub sound : IsSoundWorld w
-  pub spoken : AreSpoken w
+  pub versions : KeepVersions w
 
 -- the table doesn't refuse to open the session
 abbrev pub CanOpen : ℕ → CellState → Type 0

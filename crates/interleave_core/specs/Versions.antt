@@ -1,4 +1,4 @@
--- The versions that sessions speak (profile).
+-- The versions of sessions (profile).
 use Rattle.std.specs.Prelude.{◌≡◌, ◌++◌, ℕ, true, None, Some, is_some}
 use Rattle.std.specs.List.{AllByRecursion}
 use Rattle.table_types.specs.declared.update.Update.{Update}
@@ -16,7 +16,7 @@ IsOfVersion versions.V20 u = u.life ≡ None
 IsOfVersion versions.V21 u = is_some u.life ≡ true
 
 -- Each session is open in each table with its version, and its updates that were taught or wait to be are of that version.
-pub record AreSpoken (w : WorldState) : Type 0 where
+pub record KeepVersions (w : WorldState) : Type 0 where
   pub tables : (session table : ℕ) (s : ConnectionState) (c : CellState) → connection_at session w.connections ≡ Some s → cell_at table w.cells ≡ Some c →
       (p : Progress) × (progress_of session c.state ≡ Some p) × (p.version ≡ s.version)
   pub updates : (session : ℕ) (s : ConnectionState) → connection_at session w.connections ≡ Some s →

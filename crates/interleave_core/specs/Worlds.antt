@@ -92,16 +92,16 @@ with_session_anew session version c = with_session session version (without_sess
 
 -- the version of the session after the first `before`, if these are the versions of the sessions 1, 2 and so on
 abbrev pub version_after : ℕ → List Version → Version
-version_after before spoken = get_or spoken before versions.V21
+version_after before vs = get_or vs before versions.V21
 
 -- the table after the sessions 1 to `count` are opened in it, each with its version
 abbrev pub with_sessions : ℕ → List Version → CellState → CellState
-with_sessions zero spoken c = c
-with_sessions (suc before) spoken c = with_session (suc before) (version_after before spoken) (with_sessions before spoken c)
+with_sessions zero vs c = c
+with_sessions (suc before) vs c = with_session (suc before) (version_after before vs) (with_sessions before vs c)
 
 -- ---- a new world
 
 -- there is a session for each version, which is open in each table; nothing is on its way, and no learner has received anything
 abbrev pub new_world : List CellState → List Version → WorldState
-new_world cells spoken =
-    record { cells = map (with_sessions (length spoken) spoken) cells; connections = map (λ version. new_connection version (roster_of cells)) spoken }
+new_world cells vs =
+    record { cells = map (with_sessions (length vs) vs) cells; connections = map (λ version. new_connection version (roster_of cells)) vs }

@@ -8,7 +8,7 @@ ghost use Rattle.interleave_core.specs.Core.{IsCore};
 ghost use Rattle.interleave_core.specs.Moves.{RunsTo};
 ghost use Rattle.interleave_core.specs.Opened.{CanBegin};
 ghost use Rattle.interleave_core.specs.Parts.{connection_of};
-ghost use Rattle.interleave_core.specs.Spoken.{AreSpoken};
+ghost use Rattle.interleave_core.specs.Versions.{KeepVersions};
 ghost use Rattle.interleave_core.specs.Since.{HasNewConnection, RowsAreCopiedSince};
 ghost use Rattle.interleave_core.specs.Worlds.{WorldState, cell_at, connection_at, new_world, pipe_of, roster_of};
 
@@ -142,7 +142,7 @@ impl World {
 pub fn run(world: World, steps: &[Step]) -> Result<World, Memory>
     ensures runs { IfOk result (λ after. RunsTo world steps.now after) }
     ensures core { IfOk result IsCore }
-    ensures spoken { IfOk result AreSpoken }
+    ensures versions { IfOk result KeepVersions }
     ensures between { (first rest : List Step) → steps.now ≡ first ++ rest →
         IfOk result (λ after. (mid : WorldState) × RunsTo world first mid × RunsTo mid rest after × IsCore mid) }
     ensures each { (first rest : List Step) (mid : WorldState) → steps.now ≡ first ++ rest → RunsTo world first mid → IfOk result (λ _. IsCore mid) }

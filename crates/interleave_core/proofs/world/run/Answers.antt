@@ -37,5 +37,5 @@ pub returns-clause-since : goal.returns-clause-since
 returns-clause-since c =
     copied_since c.args.world c.args.steps.now c.loop-step.step-index c.loop-step-test.false (subst IsSoundWorld c.world.view_is c.world.invariant.sound) c.loop-step.invariant.timely
 
-pub returns-clause-spoken : goal.returns-clause-spoken
-returns-clause-spoken c = c.loop-step.invariant.order.spoken
+pub returns-clause-versions : goal.returns-clause-versions
+returns-clause-versions c = c.loop-step.invariant.order.versions
