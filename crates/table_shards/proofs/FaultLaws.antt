@@ -4,7 +4,7 @@ use Rattle.std.proofs.lemmas.Bool.{cond_both}
 use Rattle.table_shards.specs.declared.unlocked.UnlockedTable.{UnlockedTable}
 use Rattle.table_shards.specs.Receipts.{SeatState}
 use Rattle.table_shards.specs.Agreement.{Compares}
-use Rattle.table_shards.specs.Audits.{Faults, Finds, IsLegal, IsRight, is_its_own, lesser_fault}
+use Rattle.table_shards.specs.Audits.{Faults, Finds, IsLegal, IsRight, is_intact, lesser_fault}
 use Rattle.table_shards.proofs.AllLaws.{all_end, all_so}
 use Rattle.table_shards.proofs.CompareLaws.{one_last, one_left}
 
@@ -41,9 +41,9 @@ fault_found ss ts t (Some least) seat faults found =
     (λ after. let less : t.table < least.0 = leb-false least.0 t.table after in fault_lesser ss ts t least seat faults less found)
 
 -- what is wrong with one table
-pub finds_own : (ss : List SeatState) (t : UnlockedTable) (o : Option ℕ) → is_its_own t ≡ true → IsLegal t.cell → Compares t.cell t.began ss o → Finds ss t o
+pub finds_own : (ss : List SeatState) (t : UnlockedTable) (o : Option ℕ) → is_intact t ≡ true → IsLegal t.cell → Compares t.cell t.began ss o → Finds ss t o
 finds_own ss t None own legal agree = (own, legal, agree)
 finds_own ss t (Some seat) own legal compares = inr (own, compares)
 
-pub finds_other : (ss : List SeatState) (t : UnlockedTable) → is_its_own t ≡ false → Finds ss t (Some 0)
+pub finds_other : (ss : List SeatState) (t : UnlockedTable) → is_intact t ≡ false → Finds ss t (Some 0)
 finds_other ss t other = inl (other, refl)

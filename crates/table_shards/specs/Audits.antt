@@ -23,8 +23,8 @@ pub record AuditState : Type 0 where
 
 -- the cell is the table's own, it still has all events of the round, which neither a checkpoint nor a slide has dropped, and its
 -- rows got no new numbers in the round
-abbrev pub is_its_own : UnlockedTable → Bool
-is_its_own t = id_of t.cell == t.table && nat_le (t.cell.dropped + t.cell.slid) t.began && t.cell.renewals == t.renewals
+abbrev pub is_intact : UnlockedTable → Bool
+is_intact t = id_of t.cell == t.table && nat_le (t.cell.dropped + t.cell.slid) t.began && t.cell.renewals == t.renewals
 
 -- the state is the replay of the history, and each kept batch is what was unacknowledged at its place
 abbrev pub IsLegal : CellState → Type 0
@@ -32,13 +32,13 @@ IsLegal c = IsSoundCell c × Kept c
 
 -- the cell is the table's and legal, and the receipts of the seats are its events of the round
 abbrev pub IsRight : List SeatState → UnlockedTable → Type 0
-IsRight seats t = (is_its_own t ≡ true) × IsLegal t.cell × Agree t.cell t.began seats
+IsRight seats t = (is_intact t ≡ true) × IsLegal t.cell × Agree t.cell t.began seats
 
 -- what is wrong with a table: nothing; or a seat, which is 0 if the cell isn't the table's, has dropped events of the
 -- round or got new numbers in it, and otherwise what the comparison returns
 abbrev pub Finds : List SeatState → UnlockedTable → Option ℕ → Type 0
 Finds seats t None = IsRight seats t
-Finds seats t (Some seat) = ((is_its_own t ≡ false) × (seat ≡ 0)) ⊎ ((is_its_own t ≡ true) × Compares t.cell t.began seats (Some seat))
+Finds seats t (Some seat) = ((is_intact t ≡ false) × (seat ≡ 0)) ⊎ ((is_intact t ≡ true) × Compares t.cell t.began seats (Some seat))
 
 -- what an audit returns; of the tables with a fault it names the one with the least id
 abbrev pub Audits : UnlockedState → List SeatState → Option AuditError → Type 0

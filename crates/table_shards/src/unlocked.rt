@@ -2,7 +2,7 @@
 
 ghost use Rattle.std.specs.Prelude.{◌≡◌, ◌∷◌, ◌++◌, [], List, IfErr, IfOk, IsTrue, None, Some};
 ghost use Rattle.table_shards.specs.declared.unlocked.UnlockedTable.{UnlockedTable};
-ghost use Rattle.table_shards.specs.Audits.{Audits, Faults, Finds, IsLegal, UnlockedState, is_its_own, lesser_fault};
+ghost use Rattle.table_shards.specs.Audits.{Audits, Faults, Finds, IsLegal, UnlockedState, is_intact, lesser_fault};
 
 use crate::comparing::compare;
 use crate::errors::AuditError;
@@ -59,8 +59,8 @@ impl Model for Audit {
 }
 
 /// Returns whether the cell is the table's own, still has all events of the round, and got no new numbers in it.
-fn is_its_own(table: &UnlockedTable) -> bool
-    ensures own { result ≡ is_its_own table.now }
+fn is_intact(table: &UnlockedTable) -> bool
+    ensures intact { result ≡ is_intact table.now }
     ensures legal { IsTrue result → IsLegal table.now.cell }
 {
     table.cell.definition().id() == table.table
@@ -72,7 +72,7 @@ fn is_its_own(table: &UnlockedTable) -> bool
 fn fault_of(table: &UnlockedTable, seats: &[Seat]) -> Option<u32>
     ensures { Finds seats.now table.now result }
 {
-    if is_its_own(table) {
+    if is_intact(table) {
         compare(&table.cell, table.began, seats)
     } else {
         Some(0)
