@@ -8,8 +8,8 @@ use crate::numbers::{moment, number_from_one, number32, push_spaced, push_word_a
 use std::alloc::AllocError;
 use table_types::{Batch, CopyKind};
 
-/// The greatest number of rows that a call copies.
-const MOST_COPIED: u32 = Batch::MOST as u32;
+/// The greatest limit of a call that copies.
+const GREATEST_LIMIT: u32 = Batch::MOST as u32;
 
 /// Reads a call `copy SESSION KIND LIMIT MOMENT`, where KIND is `push`, `resync` or `standing`, from the words after the first.
 pub(crate) fn copy_of(words: &[&[u8]]) -> Option<Call>
@@ -21,7 +21,7 @@ pub(crate) fn copy_of(words: &[&[u8]]) -> Option<Call>
     Some(Call::Copy {
         session: number32(session)?,
         kind: copy_kind_of(kind)?,
-        limit: number_from_one(limit, MOST_COPIED)? as usize,
+        limit: number_from_one(limit, GREATEST_LIMIT)? as usize,
         moment: moment(word)?,
     })
 }
