@@ -100,7 +100,8 @@ fn add_slots(
     Ok(())
 }
 
-/// Returns the plan for `slots` slots. Begins without any, and adds one after another.
+/// Returns the plan for `slots` slots. Begins with only those links kept that have nothing inside, and adds one slot
+/// after another.
 pub fn plan_by_adding(alloc: Global, slots: usize, arcs: &mut [RequestArc]) -> Result<Plan, Memory>
     requires slots { (1 ≤ slots) × (slots ≤ slot_count) }
     requires most { length arcs.old ≤ 4096 }

@@ -65,7 +65,8 @@ fn keep_all(
 
 /// Returns an accepted plan for `requests`, with `slots` slots, if the names in `held` are held at the start: no other
 /// choice of requests to read saves more bytes (profile). If at most `slots - 1` slots are too many to keep all links,
-/// takes them away one by one; otherwise begins without slots, and adds one after another.
+/// takes them away one by one; otherwise begins with only those links kept that have nothing inside, and adds one slot
+/// after another.
 ///
 /// There are 1 to 128 slots, at most as many held names, and at most 4,096 requests.
 pub fn plan(
