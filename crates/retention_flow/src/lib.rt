@@ -5,8 +5,8 @@
 //! There are two ways to the flow. One begins with all links kept, in as many slots as that takes, and takes the slots
 //! that are too many away one by one. The other begins with only those links kept that have nothing inside, and adds one
 //! slot after another. Both go along augmenting paths of least cost, which one kind of search finds: from the last node
-//! to the first, or from the first to the last. `plan` goes the way that needs at most `slots - 1` searches, and
-//! `plan_by_cycles` always takes away.
+//! to the first, or from the first to the last. `plan` goes the way that needs at most `slots - 1` augmenting paths, and
+//! `plan_by_cycles` always takes away. In the adding way the search for a path may begin anew once.
 //!
 //! Heights are the potentials of the nodes, and the slack of a residual arc is its reduced cost. Heights are calm if no
 //! residual arc has a negative slack.
