@@ -14,11 +14,10 @@ use Rattle.table_cell.specs.Machine.{no_progress}
 use Rattle.interleave_core.specs.declared.way.Way.{Way}
 use Rattle.interleave_core.specs.declared.way.Way.TheVariants as ways
 
--- What belongs to a session: the version that it speaks; what its teacher knows of the learner once all that is on its way has
--- arrived; the batches
--- that were copied and not taught yet, the oldest first; the updates taught since the connection began, and those of
--- them that the learner has put; the bytes on their way to the learner, and to the teacher; the bytes that arrived at
--- the teacher and aren't a whole message yet; and the learner.
+-- What belongs to a session: its version; what its teacher knows of the learner once all that is on its way has arrived;
+-- the batches that were copied and not taught yet, the oldest first; the updates taught since the connection began, and
+-- those of them that the learner has put; the bytes on their way to the learner, and to the teacher; the bytes that
+-- arrived at the teacher and aren't a whole message yet; and the learner.
 pub record ConnectionState : Type 0 where
   pub version : Version
   pub known : KnownState
