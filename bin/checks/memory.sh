@@ -282,6 +282,7 @@ refused_calls() {
     meets tests_tables acknowledges_wide_rows_again ''
     meets tests_tables opens_a_fifth_session_again ''
     meets tests_data plans_again '' plan
+    meets tests_data plans_by_adding_again '' 'plan by adding'
     meets tests_data teaches_again '' teach
     meets tests_data closes_a_learner '' feed
     meets tests_data answers_without_memory --all 'row, feed and check_plan all the same'

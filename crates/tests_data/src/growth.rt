@@ -10,6 +10,11 @@ fn plans_again(rt: HostRuntime) {
 }
 
 #[test]
+fn plans_by_adding_again(rt: HostRuntime) {
+    assert!(rt; outcome(rt.alloc(), Call::PlanByAdding).is_right(&rt, "plan by adding"));
+}
+
+#[test]
 fn teaches_again(rt: HostRuntime) {
     assert!(rt; outcome(rt.alloc(), Call::Teach).is_right(&rt, "teach"));
 }

@@ -1,5 +1,5 @@
-//! Calls for which memory may run out: a plan and a lesson for 129 names in turn, twice, and a learner. Each function may be run with
-//! any one allocation failing, or with none.
+//! Calls for which memory may run out: a plan and a lesson for 129 names in turn, twice, a plan that adds slots, and a learner. Each
+//! function may be run with any one allocation failing, or with none.
 
 ghost use Rattle.table_types.specs.Batches.{IsBatchFor};
 
@@ -7,7 +7,7 @@ use crate::cyclic_names::{batch, known};
 use crate::learners::has_rows;
 use crate::outcomes::{Outcome, is_out};
 use crate::parts::{ST, alone, text_key};
-use crate::plans::{Case, Requested, asked, count_of, is_accepted, planned};
+use crate::plans::{Case, Requested, asked, is_accepted, planned, saved_by};
 use known_state::{Known, Plan};
 use learner::{Fault, Learner};
 use peers_msg::Decoder;
@@ -45,21 +45,43 @@ fn requested(alloc: Global) -> Option<Requested> {
     })
 }
 
-/// Plans, and returns whether the plan keeps 128 requests; `None` if memory runs out.
-fn is_planned(alloc: Global, requested: &Requested) -> Option<bool> {
-    match planned(alloc, 128, requested) {
-        Ok(plan) => Some(count_of(&plan) == 128),
+/// Plans, and returns whether what the plan keeps saves this many bytes; `None` if memory runs out.
+fn is_planned(alloc: Global, slots: usize, requested: &Requested, saved: u64) -> Option<bool> {
+    match planned(alloc, slots, requested) {
+        Ok(plan) => Some(saved_by(&plan, requested) == saved),
         Err(PlanError::Memory) => None,
     }
 }
 
-fn plans(alloc: Global) -> Option<Outcome> {
-    let requested = requested(alloc)?;
-    Some(match is_planned(alloc, &requested) {
+/// Plans, a second time if memory runs out for the plan. What it keeps should save this many bytes.
+fn plans(alloc: Global, slots: usize, requested: &Requested, saved: u64) -> Outcome {
+    match is_planned(alloc, slots, requested, saved) {
         Some(right) => Outcome::of(right),
-        None => Outcome::refused(is_planned(alloc, &requested) == Some(true)),
-    })
+        None => Outcome::refused(is_planned(alloc, slots, requested, saved) == Some(true)),
+    }
 }
+
+/// Requests for six names in turn, twice, with three slots. To keep all links takes six slots, three too many, so `plan` adds slots. Two
+/// links may be kept over each place. The first and the last have one of the two places in the middle inside, and the others both. So
+/// one of the others is kept beside these two, the fourth: 9 + 7 + 5 bytes. Two of the others alone save less.
+static SIX_NAMES_TWICE: Case = Case {
+    slots: 3,
+    held: b"",
+    asked: &[
+        (b'A', 29),
+        (b'B', 24),
+        (b'C', 23),
+        (b'D', 27),
+        (b'E', 26),
+        (b'F', 25),
+        (b'A', 29),
+        (b'B', 24),
+        (b'C', 23),
+        (b'D', 27),
+        (b'E', 26),
+        (b'F', 25),
+    ],
+};
 
 /// `st`'s definition, a row `a` that writes `s1` to slot 1, and a row `b` that reads it.
 const ONE_NAME_TWICE: &[u8] =
@@ -101,8 +123,10 @@ fn feeds(alloc: Global) -> Option<Outcome> {
 pub enum Call {
     /// Teaches 258 updates that name 129 servers in turn, twice.
     Teach,
-    /// Plans for them.
+    /// Plans for them, and takes a slot away.
     Plan,
+    /// Plans for six names in turn, twice, and adds slots.
+    PlanByAdding,
     /// Feeds a learner two updates that name one server.
     Feed,
 }
@@ -110,7 +134,11 @@ pub enum Call {
 fn made(alloc: Global, call: Call) -> Option<Outcome> {
     match call {
         Call::Teach => teaches(alloc),
-        Call::Plan => plans(alloc),
+        Call::Plan => Some(plans(alloc, 128, &requested(alloc)?, 640)),
+        Call::PlanByAdding => {
+            let asked = asked(alloc, &SIX_NAMES_TWICE)?;
+            Some(plans(alloc, SIX_NAMES_TWICE.slots, &asked, 21))
+        }
         Call::Feed => feeds(alloc),
     }
 }

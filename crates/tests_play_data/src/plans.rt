@@ -1,4 +1,4 @@
-//! Plans: which are accepted and at which prices, and which requests the planner keeps.
+//! Plans: which are accepted and at which prices, and which requests `plan` and `plan_by_cycles` keep.
 
 use crate::parts::named;
 use known_state::{Plan, Request};
@@ -18,21 +18,36 @@ pub struct Case {
 /// How many marks a plan has, the places of the requests that it keeps, from 1, its prices, and whether it is accepted.
 pub type Judged = (usize, &'static [usize], &'static [u64], bool);
 
-/// A case, plans of it, and the places of the requests that the planner keeps.
+/// A case, plans of it, and the places of the requests that both planners keep.
 pub struct Story {
     pub case: Case,
     pub plans: &'static [Judged],
     pub kept: &'static [usize],
 }
 
-/// 512 requests for `names` names in turn, with 128 empty slots.
+/// How many bytes a read of a name saves.
+#[derive(Clone, Copy, Debug)]
+pub enum Saving {
+    /// This many, whichever name it is.
+    Each(u32),
+    /// As many as the number of the name, from 1.
+    Rising,
+}
+
+/// Requests for names in turn, with 128 empty slots.
 pub struct InTurn {
+    /// How many names there are.
     pub names: u32,
-    /// Whether a write costs as many bytes more than a read as the number of its name, from 1. Otherwise it costs 10 more.
-    pub rises: bool,
-    /// How many requests the planner keeps.
+    /// How many requests for them.
+    pub requests: u32,
+    pub saving: Saving,
+    /// How many bytes a read of one more name saves, if there is one. It is requested before all others, and after them.
+    pub around: Option<u32>,
+    /// How many requests both planners keep.
     pub count: usize,
-    /// The first and the last place of each run of requests that it keeps, if they are known.
+    /// How many bytes these save.
+    pub saved: u64,
+    /// The first and the last place of each run of requests that they keep, if they are known.
     pub runs: Option<&'static [(usize, usize)]>,
 }
 
@@ -94,7 +109,7 @@ pub(crate) fn is_accepted(slots: usize, asked: &Requested, plan: &Plan) -> Optio
     Some(check_plan(slots, held, requests, plan))
 }
 
-/// Returns the plan that the planner makes.
+/// Returns the plan that `plan` makes.
 pub(crate) fn planned(alloc: Global, slots: usize, asked: &Requested) -> Result<Plan, PlanError> {
     let (held, requests) = (asked.held.as_slice(), asked.requests.as_slice());
     if slots < 1 || slots > 128 || held.len() > slots || requests.len() > Batch::MOST {
@@ -103,7 +118,7 @@ pub(crate) fn planned(alloc: Global, slots: usize, asked: &Requested) -> Result<
     retention_flow::plan(alloc, slots, held, requests)
 }
 
-/// Returns the plan that the planner makes that only cancels cycles.
+/// Returns the plan that `plan_by_cycles` makes.
 fn planned_by_cycles(alloc: Global, slots: usize, asked: &Requested) -> Result<Plan, PlanError> {
     let (held, requests) = (asked.held.as_slice(), asked.requests.as_slice());
     if slots < 1 || slots > 128 || held.len() > slots || requests.len() > Batch::MOST {
@@ -131,7 +146,7 @@ fn is_planned(alloc: Global, slots: usize, asked: &Requested, kept: &[usize]) ->
     Some(is_right(slots, asked, kept, &made)? && is_right(slots, asked, kept, &by_cycles)?)
 }
 
-/// Returns the index of the first plan that is judged differently, or the number of plans if the planner keeps other requests, or
+/// Returns the index of the first plan that is judged differently, or the number of plans if a planner keeps other requests, or
 /// the checker refuses its plan.
 fn failing_plan(alloc: Global, story: &Story, asked: &Requested) -> Option<usize> {
     let slots = story.case.slots;
@@ -155,7 +170,7 @@ fn failing(alloc: Global, story: &Story) -> Option<usize> {
 }
 
 /// Returns the index of the first story that fails, and the index of its plan that does: the number of its plans
-/// stands for the planner's.
+/// stands for those of the planners.
 pub fn first_failing(alloc: Global, stories: &[Story]) -> Option<(usize, usize)> {
     for (place, story) in stories.iter().enumerate() {
         if let Some(plan) = failing(alloc, story) {
@@ -180,24 +195,51 @@ fn keeps_at_last(alloc: Global, story: &Story, asked: &Requested) -> bool {
     }
 }
 
-/// Returns whether the planner keeps the requests of the story, asked a second time if memory ran out for the plan; `None` if memory
+/// Returns whether `plan` keeps the requests of the story, asked a second time if memory ran out for the plan; `None` if memory
 /// ran out before.
 pub fn is_planned_again(alloc: Global, story: &Story) -> Option<bool> {
     Some(keeps_at_last(alloc, story, &asked(alloc, &story.case)?))
 }
 
-fn in_turn(alloc: Global, names: u32, rises: bool) -> Option<Vec<Request>> {
+/// Makes a request for a name, of which a read saves this many bytes.
+fn request(alloc: Global, name: &[u8], saving: u32) -> Option<Request> {
+    Request::new(named(alloc, name)?, 20, saving.saturating_add(20))
+}
+
+/// Returns three letters for a number below 4,096, others for each.
+fn letters(number: u32) -> [u8; 3] {
+    [
+        b'A' + (number / 256 % 16) as u8,
+        b'A' + (number / 16 % 16) as u8,
+        b'a' + (number % 16) as u8,
+    ]
+}
+
+/// Adds a request for the name around the others, if there is one.
+fn push_around(alloc: Global, around: Option<u32>, requests: &mut Vec<Request>) -> Option<()> {
+    match around {
+        Some(saving) => requests.push(request(alloc, b"around", saving)?).ok(),
+        None => Some(()),
+    }
+}
+
+fn in_turn(alloc: Global, turn: &InTurn) -> Option<Vec<Request>> {
+    let names = turn.names;
     if names == 0 {
         return None;
     }
     let mut requests = Vec::new(alloc);
-    for index in 0..512_u32 {
+    push_around(alloc, turn.around, &mut requests)?;
+    for index in 0..turn.requests {
         let number = index % names;
-        let name = [b'A' + (number / 16 % 32) as u8, b'a' + (number % 16) as u8];
-        let saving = if rises { number.saturating_add(1) } else { 10 };
-        let request = Request::new(named(alloc, &name)?, 20, saving.saturating_add(20))?;
-        requests.push(request).ok()?;
+        let saving = match turn.saving {
+            Saving::Each(saving) => saving,
+            Saving::Rising => number.saturating_add(1),
+        };
+        let name = letters(number);
+        requests.push(request(alloc, &name, saving)?).ok()?;
     }
+    push_around(alloc, turn.around, &mut requests)?;
     Some(requests)
 }
 
@@ -205,12 +247,12 @@ fn in_turn(alloc: Global, names: u32, rises: bool) -> Option<Vec<Request>> {
 fn asked_in_turn(alloc: Global, turn: &InTurn) -> Option<Requested> {
     Some(Requested {
         held: Vec::new(alloc),
-        requests: in_turn(alloc, turn.names, turn.rises)?,
+        requests: in_turn(alloc, turn)?,
     })
 }
 
 /// Returns how many requests the plan keeps.
-pub(crate) fn count_of(plan: &Plan) -> usize {
+fn count_of(plan: &Plan) -> usize {
     let mut count: usize = 0;
     for keep in plan.keep() {
         if *keep {
@@ -218,6 +260,18 @@ pub(crate) fn count_of(plan: &Plan) -> usize {
         }
     }
     count
+}
+
+/// Returns how many bytes the requests save that the plan keeps.
+pub(crate) fn saved_by(plan: &Plan, asked: &Requested) -> u64 {
+    let mut saved: u64 = 0;
+    for (keep, request) in plan.keep().iter().zip(asked.requests.as_slice()) {
+        if *keep {
+            let saving = request.write_cost().saturating_sub(request.read_cost());
+            saved = saved.saturating_add(u64::from(saving));
+        }
+    }
+    saved
 }
 
 fn is_in(place: usize, runs: &[(usize, usize)]) -> bool {
@@ -247,9 +301,10 @@ fn is_kept(plan: &Plan, turn: &InTurn) -> bool {
         }
 }
 
-/// Returns whether the plan keeps what it should, and the checker accepts it.
+/// Returns whether the plan keeps and saves what it should, and the checker accepts it.
 fn is_right_in_turn(asked: &Requested, turn: &InTurn, plan: &Plan) -> Option<bool> {
-    Some(is_kept(plan, turn) && is_accepted(128, asked, plan)?)
+    let saved = saved_by(plan, asked);
+    Some(is_kept(plan, turn) && saved == turn.saved && is_accepted(128, asked, plan)?)
 }
 
 fn is_planned_in_turn(alloc: Global, turn: &InTurn) -> Option<bool> {
@@ -259,7 +314,7 @@ fn is_planned_in_turn(alloc: Global, turn: &InTurn) -> Option<bool> {
     Some(is_right_in_turn(&asked, turn, &made)? && is_right_in_turn(&asked, turn, &by_cycles)?)
 }
 
-/// Returns the index of the first of these for which the planner keeps other requests, or the checker refuses its plan.
+/// Returns the index of the first of these for which a planner keeps other requests, or the checker refuses its plan.
 pub fn first_failing_in_turn(alloc: Global, turns: &[InTurn]) -> Option<usize> {
     for (place, turn) in turns.iter().enumerate() {
         if is_planned_in_turn(alloc, turn) != Some(true) {
