@@ -1,9 +1,9 @@
-//! The order in which rows end.
+//! The order in which rows end, and the first to end of those that both types hold.
 
 use std::alloc::Global;
 use std::collections::BTreeSet;
-use table_rows::RowEnd;
-use table_types::{Cell, Memory, Moment, Row, ShortList};
+use table_rows::{ListRows, MapRows, RowEnd, Rows};
+use table_types::{Cell, Key, Memory, Moment, Row, ShortList};
 
 /// The number of a row, and the ms after the least moment at which the row ends, if it does.
 pub type Entry = (u32, Option<u32>);
@@ -42,4 +42,39 @@ pub fn end_in_order(alloc: Global, entries: &[Entry], numbers: &[u32]) -> Option
         }
     }
     Some(ends.is_empty())
+}
+
+/// The key of a row, its number, and the ms after the least moment at which the row ends, if it does.
+pub type Keyed = (u32, u32, Option<u32>);
+
+fn put_all<R: Rows>(rows: &mut R, alloc: Global, entries: &[Keyed]) -> Result<(), Memory> {
+    for (key, number, end) in entries {
+        let row = row(alloc, *number, *end)?;
+        let _before = rows.put(Key::Int(*key), row)?;
+    }
+    Ok(())
+}
+
+/// Returns whether the rows of these keys, and no others, are the first to end one after another, each taken out before the next.
+fn are_first<R: Rows>(rows: &mut R, keys: &[u32]) -> bool {
+    for key in keys {
+        let is_first = match rows.first_to_end() {
+            Some(first) => first.is_same(&Key::Int(*key)),
+            None => false,
+        };
+        if !is_first {
+            return false;
+        }
+        let _row = rows.take(&Key::Int(*key));
+    }
+    rows.first_to_end().is_none()
+}
+
+/// Returns whether both types that hold rows name those of `entries` in the order of `keys` as the first to end.
+pub fn are_first_in_order(alloc: Global, entries: &[Keyed], keys: &[u32]) -> Option<bool> {
+    let mut list = ListRows::new(alloc);
+    put_all(&mut list, alloc, entries).ok()?;
+    let mut map = MapRows::new(alloc);
+    put_all(&mut map, alloc, entries).ok()?;
+    Some(are_first(&mut list, keys) && are_first(&mut map, keys))
 }

@@ -20,6 +20,7 @@ pub mod seats;
 pub mod swaps;
 mod tracks;
 mod two_seats;
+pub mod versions;
 pub mod wide;
 
 pub use tracks::{comes, count, track};
