@@ -144,6 +144,19 @@ pub fn are_same(one: &Known, other: &Known) -> bool {
         && hold_alike(one.slots(), other.slots())
 }
 
+/// Makes the state in which `t1` is defined and selected and its last number is `last`, or in which nothing is known if there is
+/// none.
+pub fn known_of_t1(alloc: Global, last: Option<u32>) -> Option<Known> {
+    let roster = alone(alloc, &T1)?;
+    let (mut defined, mut numbers) = (Vec::new(alloc), Vec::new(alloc));
+    let Some(last) = last else {
+        return Known::build(alloc, roster, None, defined, numbers, Slots::new(alloc)).ok();
+    };
+    defined.push(T1.id).ok()?;
+    numbers.push((T1.id, last)).ok()?;
+    Known::build(alloc, roster, Some(T1.id), defined, numbers, Slots::new(alloc)).ok()
+}
+
 /// Returns the index of the first story of which a step fails.
 pub fn first_failing(alloc: Global, stories: &[Story]) -> Option<usize> {
     for (place, (state, steps)) in stories.iter().enumerate() {

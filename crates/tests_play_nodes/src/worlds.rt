@@ -1,4 +1,7 @@
-//! Worlds of `t1` and one session: what steps leave in the lists of the session, on its way, and at its learner.
+//! Worlds of `t1` and one session: what steps leave in the lists of the session, on its way, at its learner, and in what the teacher
+//! knows of that.
+
+ghost use Rattle.std.specs.Prelude.{◌≡◌, IfSome, length};
 
 use interleave_core::{Step, Way, World, run};
 use learner::Learner;
@@ -7,6 +10,7 @@ use table_cell::TableCell;
 use table_types::{
     Batch, Cell, Change, CopyKind, DataType, Key, Moment, Row, Update, Value, Version,
 };
+use tests_play_data::known_states::{are_same, known_of_t1};
 use tests_play_data::parts::{KeyParts, T1, UpdateParts, definition, update};
 
 /// The number of the session.
@@ -39,7 +43,7 @@ pub enum Short {
 pub type Told = (u32, Option<u32>, u32, u64);
 
 /// What there is of session 1 and of `t1`.
-#[derive(Drop)]
+#[derive(Clone, Copy, Debug)]
 pub struct Seen {
     /// The batches that wait to be taught.
     pub copied: &'static [&'static [Told]],
@@ -49,6 +53,10 @@ pub struct Seen {
     pub to_teacher: &'static [u8],
     /// The learner's rows: their keys, numbers and counts. Each ends 30 s after the least moment.
     pub rows: &'static [(u32, u32, u64)],
+    /// How many bytes of an unfinished message the learner has.
+    pub waiting: usize,
+    /// The last number of `t1` that the teacher knows of, which is then defined and selected. It knows nothing if there is none.
+    pub known: Option<u32>,
     /// How many events the teacher's table has had.
     pub events: u64,
 }
@@ -56,8 +64,14 @@ pub struct Seen {
 /// Steps, and what there is after them.
 pub type Part = (&'static [Short], Seen);
 
-/// The version of the session, and steps in parts.
-pub type Story = (Version, &'static [Part]);
+/// Steps in parts, in a new world.
+pub struct Story {
+    /// The version of the session.
+    pub version: Version,
+    /// How often 1 was added to key 1 before the session was opened.
+    pub added: u32,
+    pub parts: &'static [Part],
+}
 
 /// Makes the step of an update that the teacher's table learns.
 fn learn(alloc: Global, key: u32, count: u64) -> Option<Step> {
@@ -197,28 +211,71 @@ fn are_sent(world: &World, seen: &Seen) -> Option<bool> {
     Some(to_learner == seen.to_learner && to_teacher == seen.to_teacher)
 }
 
-fn is_seen(world: &World, seen: &Seen) -> Option<bool> {
+/// Returns whether the learner has these rows, and this many bytes of an unfinished message.
+fn has_learned(world: &World, seen: &Seen) -> Option<bool> {
+    let learner = world.learner(SESSION)?;
+    Some(has_rows(learner, seen.rows)? && learner.waiting() == seen.waiting)
+}
+
+/// Returns whether the teacher knows what it should of the learner. If nothing is on its way to the learner, that is what is so.
+fn is_known(alloc: Global, world: &World, seen: &Seen) -> Option<bool> {
+    let (known, learner) = (world.known(SESSION)?, world.learner(SESSION)?);
+    let is_so = learner.known(known.roster()).ok()?;
+    let has_arrived = seen.to_learner.is_empty();
+    Some(
+        are_same(known, &known_of_t1(alloc, seen.known)?)
+            && (!has_arrived || are_same(known, &is_so)),
+    )
+}
+
+fn is_seen(alloc: Global, world: &World, seen: &Seen) -> Option<bool> {
     Some(
         are_listed(world, seen)?
             && are_sent(world, seen)?
-            && has_rows(world.learner(SESSION)?, seen.rows)?
+            && has_learned(world, seen)?
+            && is_known(alloc, world, seen)?
             && world.cell(T1.id)?.events() == seen.events,
     )
 }
 
-/// Makes a new world of `t1` and a session of this version.
-fn world(alloc: Global, version: Version) -> Option<World> {
-    let cell = TableCell::new(alloc, definition(alloc, &T1)?, 1_000_000, false, 1).ok()?;
+/// Adds 1 to key 1 of `t1`.
+fn add_one(cell: &mut TableCell) -> Option<()>
+    ensures { IfSome result (λ done. length cell.new.state.sessions ≡ length cell.old.state.sessions) }
+{
+    let change = Change::Add(DataType::Gpc0, 1);
+    let _reply = cell
+        .track(0, Key::Int(1), change, Moment::least())
+        .ok()?;
+    Some(())
+}
+
+/// Makes `t1`, and adds 1 to its key 1 this often.
+fn cell_after(alloc: Global, added: u32) -> Option<TableCell>
+    ensures { IfSome result (λ cell. length cell.state.sessions ≡ 0) }
+{
+    let mut cell = TableCell::new(alloc, definition(alloc, &T1)?, 1_000_000, false, 1).ok()?;
+    for _ in 0..added {
+        add_one(&mut cell)?;
+    }
+    Some(cell)
+}
+
+/// Makes the world of a story, before its steps.
+fn world(alloc: Global, story: &Story) -> Option<World> {
+    let cell = cell_after(alloc, story.added)?;
+    if cell.room() < 1 {
+        return None;
+    }
     let cells = vec![in alloc; cell].ok()?;
-    World::new(alloc, cells, vec![in alloc; version].ok()?).ok()
+    World::new(alloc, cells, vec![in alloc; story.version].ok()?).ok()
 }
 
 /// Returns the index of the first part after which something else is there; `None` if memory runs out.
 fn failing_part(alloc: Global, story: &Story) -> Option<Option<usize>> {
-    let mut world = world(alloc, story.0)?;
-    for (place, (steps, seen)) in story.1.iter().enumerate() {
+    let mut world = world(alloc, story)?;
+    for (place, (steps, seen)) in story.parts.iter().enumerate() {
         world = after(alloc, world, *steps)?;
-        if !is_seen(&world, seen)? {
+        if !is_seen(alloc, &world, seen)? {
             return Some(Some(place));
         }
     }
