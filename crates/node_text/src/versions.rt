@@ -1,6 +1,7 @@
 //! Versions of the protocol.
-ghost use Rattle.std.specs.Prelude.{◌≡◌, IfOk, IfSome, Some, length, map};
-ghost use Rattle.node_text.specs.Versions.{AreVersions, version_name};
+ghost use Rattle.std.specs.Prelude.{◌≡◌, Err, IfOk, IfSome, IsTrue, Some, length, map};
+ghost use Rattle.std.specs.List.{AllByRecursion};
+ghost use Rattle.node_text.specs.Versions.{AreVersionNames, AreVersions, IsVersionName, version_name};
 ghost use Rattle.table_types.specs.declared.version.Version.{Version};
 
 use crate::error::LineError;
@@ -19,7 +20,20 @@ pub(crate) fn version_of(word: &[u8]) -> Option<Version>
     }
 }
 
-/// Reads the versions of `count` sessions, one from each word: 2.1 for each if there are no words.
+/// Returns whether each word names a version.
+fn are_version_names(words: &[&[u8]]) -> bool
+    ensures { IsTrue result → AllByRecursion IsVersionName (map (λ word. word.now) words.now) }
+{
+    for word in words {
+        if version_of(word).is_none() {
+            return false;
+        }
+    }
+    true
+}
+
+/// Reads the versions of `count` sessions, one from each word: 2.1 for each if there are no words. Allocates only if none of the
+/// words is refused.
 pub(crate) fn versions_of(
     alloc: Global,
     count: usize,
@@ -27,11 +41,12 @@ pub(crate) fn versions_of(
 ) -> Result<Vec<Version>, LineError>
     ensures written { IfOk result (λ versions. AreVersions count (map (λ word. word.now) words.now) versions.items) }
     ensures count { IfOk result (λ versions. length versions.items ≡ count) }
+    ensures memory { result ≡ Err LineError.Memory → AreVersionNames count (map (λ word. word.now) words.now) }
 {
     if words.is_empty() {
         return Ok(vec![in alloc; Version::V21; count]?);
     }
-    if words.len() != count {
+    if words.len() != count || !are_version_names(words) {
         return Err(LineError::Refused);
     }
     named_versions(alloc, words)

@@ -5,7 +5,7 @@ ghost use Rattle.node_text.specs.Scripts.{IsLineOf, line_count};
 ghost use Rattle.node_text.specs.Worlds.{IsWorldScript, IsWorldScriptSoFar, definitions, has_like, session_count};
 
 use crate::error::{LineError, SceneError};
-use crate::limits::{push_within, set_once};
+use crate::limits::push_within;
 use crate::lines::{LineReader, read_lines};
 use crate::numbers::{number, number_from_one};
 use crate::script_tables::{ScriptTable, is_setting};
@@ -135,8 +135,11 @@ impl WorldScript {
         ensures { self.old.lines.items ≡ [] → IsWorldScriptSoFar self.old → IsWorldScriptSoFar self.new }
     {
         let count = number_from_one(word, MOST_SESSIONS).ok_or(LineError::Refused)?;
-        let versions = versions_of(alloc, count as usize, words)?;
-        set_once(&mut self.versions, versions)
+        if self.versions.is_some() {
+            return Err(LineError::Refused);
+        }
+        self.versions = Some(versions_of(alloc, count as usize, words)?);
+        Ok(())
     }
 
     /// Returns the index of the table whose id `word` writes.
