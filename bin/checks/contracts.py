@@ -1,7 +1,7 @@
 #!/usr/bin/env python3
 """Tests that each contract that README.md and docs/*.md name exists.
 
-Looks at each code span in the columns `Contract` and `Where` of a table, and at each span elsewhere that begins with a crate:
+Looks at each code span in the columns of a table that name contracts (`COLUMNS`), and at each span elsewhere that begins with a crate:
 `CRATE::NAME` or `CRATE::TYPE::NAME`, with the labels of its clauses after commas. In a cell, a later span may leave out the crate and
 the type, or be the label of a clause alone; one that names no function may name a type, a trait, a module or a definition. Prints each
 span that names nothing, with its line, and then has status 1.
@@ -18,7 +18,7 @@ TYPE = re.compile(r"^(?:pub(?:\([a-z]+\))? )?(?:struct|enum|trait) (\w+)")
 CLAUSE = re.compile(r"^ *ensures\*? ([a-z_0-9]+) \{")
 DEFINED = re.compile(r"^(?:\w+ )?pub (?:(?:abbrev|record|data) )?(\w+) ", re.M)
 FIELD = re.compile(r"^ +pub (\w+) :", re.M)
-COLUMNS = ("Contract", "Where")
+COLUMNS = ("Contract", "Where", "For users of the library", "In the program")
 SPAN = re.compile(r"`([^`]+)`")
 NAMED = re.compile(r"\w+(?:::\w+)*(?:, [a-z_0-9]+)*")
 
@@ -76,9 +76,11 @@ class Reader:
 
     def __init__(self, crates, crate):
         self.crates, self.crate, self.owner, self.labels = crates, crate, [], set()
+        self.function = None
 
     def missing(self, span):
-        """Returns what the span names that isn't there."""
+        """Returns what the span names that isn't there. `function` is then the path of the function that it names, or None."""
+        self.function = None
         name, *labels = span.split(", ")
         path = name.split("::")
         is_whole = len(path) > 1 and path[0] in self.crates
@@ -89,13 +91,16 @@ class Reader:
         if name in self.labels and not labels:
             return []
         crate = self.crates.get(self.crate)
-        found = crate and (crate.function(path) or crate.function([*self.owner, *path]))
-        if found:
-            self.labels |= crate.clauses[found]
-            return [it for it in labels if it not in crate.clauses[found]]
-        if not labels and self.is_named(crate, path, is_whole):
-            return []
-        return [name]
+        for it in ([*self.owner, path[-1]], path):
+            if found := crate and crate.function(it):
+                self.function = (self.crate, *it)
+                self.labels |= crate.clauses[found]
+                return [it for it in labels if it not in crate.clauses[found]]
+        if labels or not self.is_named(crate, path, is_whole):
+            return [name]
+        if crate and "::".join(path) in crate.modules:
+            self.owner = path
+        return []
 
     def is_named(self, crate, path, is_whole):
         """Returns whether the path names something other than a function. A span without a crate may name that of another."""
@@ -109,27 +114,32 @@ class Reader:
 
 
 def cells(lines):
-    """Yields each part of the text with the number of its line, and whether it is a cell that names contracts."""
-    column = None
+    """Yields each part of the text with the number of its line, and the heading of its column if it is a cell of a table."""
+    headings = []
     for number, line in enumerate(lines, 1):
         if not line.startswith("|"):
-            column = None
-            yield number, False, line
+            headings = []
+            yield number, "", line
             continue
         texts = [it.strip() for it in line.strip().strip("|").split("|")]
         for place, text in enumerate(texts):
-            yield number, place == column, text
-        named = [it for it in COLUMNS if it in texts]
-        column = texts.index(named[0]) if named else column
+            yield number, headings[place] if place < len(headings) else "", text
+        headings = headings or texts
+
+
+def read(crates, path):
+    """Yields each part of a document with the number of its line, the heading of its column, and a reader for its spans."""
+    section = ""
+    for number, heading, text in cells(path.read_text(encoding="utf-8").split("\n")):
+        if text.startswith("#"):
+            found = re.search(r"\(`(\w+)`", text)
+            section = found[1] if found else ""
+        yield number, heading, text, Reader(crates, section)
 
 
 def complaints(crates, path):
-    section = ""
-    for number, is_cell, text in cells(path.read_text(encoding="utf-8").split("\n")):
-        if text.startswith("#"):
-            heading = re.search(r"\(`(\w+)`", text)
-            section = heading[1] if heading else ""
-        reader = Reader(crates, section)
+    for number, heading, text, reader in read(crates, path):
+        is_cell = heading in COLUMNS
         for span in SPAN.findall(text):
             if not is_cell and not ("::" in span and span.split("::")[0] in crates):
                 continue
@@ -142,8 +152,12 @@ def complaints(crates, path):
                 yield f"{path.relative_to(TOP)}:{number}: `{span}`: there is no {', '.join(lost)}"
 
 
+def crates_of(top):
+    return {it.name: Crate(it) for it in sorted((top / "crates").iterdir()) if it.is_dir()}
+
+
 def main():
-    crates = {it.name: Crate(it) for it in sorted((TOP / "crates").iterdir()) if it.is_dir()}
+    crates = crates_of(TOP)
     said = [it for path in (TOP / "README.md", *sorted(TOP.glob("docs/*.md"))) for it in complaints(crates, path)]
     for it in said:
         print(it)
