@@ -100,8 +100,15 @@ impl Intake {
         self.unread.len()
     }
 
+    /// Returns the bytes that were fed and not taken.
+    pub fn unread(&self) -> &[u8]
+        ensures { result.now ≡ self.now.unread }
+    {
+        self.unread.as_slice()
+    }
+
     /// Returns whether there was a fault.
-    pub(crate) fn is_closed(&self) -> bool
+    pub fn is_closed(&self) -> bool
         ensures { result ≡ self.now.closed }
     {
         self.closed
@@ -159,8 +166,10 @@ impl Intake {
         }
     }
 
-    /// Returns what a message gives, and what it does to the state.
-    fn shown<'a>(&'a self, message: MessageRef<'a>) -> Result<(TakenRef<'a>, Effect), Fault>
+    /// Returns what a message gives, and what it does to the state; or why it is refused. Nothing changes yet.
+    ///
+    /// Allocates only for a definition and for a name that an update writes.
+    pub fn shown<'a>(&'a self, message: MessageRef<'a>) -> Result<(TakenRef<'a>, Effect), Fault>
         requires { fits self.now.state.received (owned_message message) ≡ true }
         ensures effect { IfOk result (λ shown. IsEffect self.now.state (owned_message message.entry) shown.1) }
         ensures shows { IfOk result (λ shown. Shows self.now (owned_message message.entry) shown.1 shown.0) }
@@ -203,7 +212,7 @@ impl Intake {
     }
 
     /// Moves past the message at the front. After `Memory` nothing has changed.
-    fn pass(&mut self, advance: Advance) -> Result<(), Memory>
+    pub fn pass(&mut self, advance: Advance) -> Result<(), Memory>
         requires { advance.used ≤ length self.old.unread }
         ensures passed { OnOk result (self.new ≡ passed self.old advance) }
         ensures stays { OnErr result (self.new ≡ self.old) }
@@ -264,7 +273,7 @@ impl Intake {
     }
 
     /// Closes at a fault, unless it is out of memory.
-    fn stop(&mut self, fault: Fault)
+    pub fn stop(&mut self, fault: Fault)
         ensures { self.new ≡ stopped self.old fault }
     {
         match fault {

@@ -12,6 +12,7 @@ mod local_tables;
 mod table_rows;
 mod taken;
 
+pub use advance::Advance;
 pub use fault::Fault;
 pub use intake::Intake;
 pub use laws::{
@@ -19,4 +20,4 @@ pub use laws::{
     numbers_stay_rising, one_fault, one_outcome, others_stay, the_last_stands,
 };
 pub use learner::Learner;
-pub use taken::Taken;
+pub use taken::{LocalUpdateRef, Taken, TakenRef};
