@@ -149,22 +149,22 @@ same_past xs more is = past_on xs more (has_ended xs is)
 
 -- ---- a status
 
-stays_if : (b : Bool) (used : ℕ) (bytes more : List ℕ) → used ≤ length bytes → Stays (opens_if b (drop used bytes)) more (opens_if b (drop used (bytes ++ more)))
-stays_if true used bytes more within = ap Opens (drop-append-le used bytes more within)
-stays_if false used bytes more within = refl
+stays_if : (b : Bool) (version : Version) (code used : ℕ) (bytes more : List ℕ) → used ≤ length bytes → Stays (opens_if b version code (drop used bytes)) more (opens_if b version code (drop used (bytes ++ more)))
+stays_if true version code used bytes more within = ap (Opens version) (drop-append-le used bytes more within)
+stays_if false version code used bytes more within = refl
 
-stays_code : (code : Option ℕ) (used : ℕ) (bytes more : List ℕ) → used ≤ length bytes → Stays (by_status (status_of_code code used) bytes) more (by_status (status_of_code code used) (bytes ++ more))
-stays_code (Some code) used bytes more within = stays_if (code == 200) used bytes more within
-stays_code None used bytes more within = refl
+stays_code : (version : Version) (code : Option ℕ) (used : ℕ) (bytes more : List ℕ) → used ≤ length bytes → Stays (by_status version (status_of_code code used) bytes) more (by_status version (status_of_code code used) (bytes ++ more))
+stays_code version (Some code) used bytes more within = stays_if (code == 200) version code used bytes more within
+stays_code version None used bytes more within = refl
 
 -- two statuses, of these bytes and of these with more
-stays_status : (a b : Status) (bytes more : List ℕ) → Stays (by_status a bytes) more (by_status b (bytes ++ more)) → status_of bytes ≡ a → status_of (bytes ++ more) ≡ b → Stays (by_status (status_of bytes) bytes) more (by_status (status_of (bytes ++ more)) (bytes ++ more))
-stays_status a b bytes more stays is is' =
-    subst (λ (s : Status). Stays (by_status s bytes) more (by_status (status_of (bytes ++ more)) (bytes ++ more))) (sym is)
-    (subst (λ (s : Status). Stays (by_status a bytes) more (by_status s (bytes ++ more))) (sym is') stays)
+stays_status : (version : Version) (a b : Status) (bytes more : List ℕ) → Stays (by_status version a bytes) more (by_status version b (bytes ++ more)) → status_of bytes ≡ a → status_of (bytes ++ more) ≡ b → Stays (by_status version (status_of bytes) bytes) more (by_status version (status_of (bytes ++ more)) (bytes ++ more))
+stays_status version a b bytes more stays is is' =
+    subst (λ (s : Status). Stays (by_status version s bytes) more (by_status version (status_of (bytes ++ more)) (bytes ++ more))) (sym is)
+    (subst (λ (s : Status). Stays (by_status version a bytes) more (by_status version s (bytes ++ more))) (sym is') stays)
 
-status_stays_by : (lack : Option NoLine) (bytes more : List ℕ) → no_line bytes ≡ lack → Stays (by_status (status_of bytes) bytes) more (by_status (status_of (bytes ++ more)) (bytes ++ more))
-status_stays_by None bytes more is =
+status_stays_by : (version : Version) (lack : Option NoLine) (bytes more : List ℕ) → no_line bytes ≡ lack → Stays (by_status version (status_of bytes) bytes) more (by_status version (status_of (bytes ++ more)) (bytes ++ more))
+status_stays_by version None bytes more is =
     let used : ℕ = length bytes - length (past 10 bytes) in
     let one = length-append bytes more in
     let two = length-append (past 10 bytes) more in
@@ -174,15 +174,15 @@ status_stays_by None bytes more is =
     ap (λ (l : Option NoLine). status_at l (status_of_code (code_of (line (bytes ++ more))) (length (bytes ++ more) - length (past 10 (bytes ++ more)))) (length (bytes ++ more))) (still_none bytes more is)
     ∙ ap (λ (l : List ℕ). status_of_code (code_of l) (length (bytes ++ more) - length (past 10 (bytes ++ more)))) (same_line bytes more is)
     ∙ ap (status_of_code (code_of (line bytes))) same_used in
-    stays_status _ _ bytes more (stays_code (code_of (line bytes)) used bytes more (omega arith)) here there
-status_stays_by (Some lacks.TooLong) bytes more is =
+    stays_status version _ _ bytes more (stays_code version (code_of (line bytes)) used bytes more (omega arith)) here there
+status_stays_by version (Some lacks.TooLong) bytes more is =
     let here : status_of bytes ≡ statuses.Other (length bytes) = ap (λ (l : Option NoLine). status_at l (status_of_code (code_of (line bytes)) (length bytes - length (past 10 bytes))) (length bytes)) is in
     let there : status_of (bytes ++ more) ≡ statuses.Other (length (bytes ++ more)) =
     ap (λ (l : Option NoLine). status_at l (status_of_code (code_of (line (bytes ++ more))) (length (bytes ++ more) - length (past 10 (bytes ++ more)))) (length (bytes ++ more))) (still_long bytes more is) in
-    stays_status (statuses.Other (length bytes)) (statuses.Other (length (bytes ++ more))) bytes more refl here there
-status_stays_by (Some lacks.More) bytes more is =
+    stays_status version (statuses.Other (length bytes)) (statuses.Other (length (bytes ++ more))) bytes more refl here there
+status_stays_by version (Some lacks.More) bytes more is =
     let here : status_of bytes ≡ statuses.More = ap (λ (l : Option NoLine). status_at l (status_of_code (code_of (line bytes)) (length bytes - length (past 10 bytes))) (length bytes)) is in
-    stays_status statuses.More (status_of (bytes ++ more)) bytes more tt here refl
+    stays_status version statuses.More (status_of (bytes ++ more)) bytes more tt here refl
 
 -- ---- a hello
 
@@ -222,7 +222,7 @@ after_less (suc n) bytes =
 stays_decided : (judgement : Result Version ℕ) (is_peer : Bool) (name : List ℕ) (used : ℕ) (bytes more : List ℕ) → used ≤ length bytes → Stays (by_answer (decided judgement is_peer name used) bytes) more (by_answer (decided judgement is_peer name used) (bytes ++ more))
 stays_decided (Err code) is_peer name used bytes more within = refl
 stays_decided (Ok version) false name used bytes more within = refl
-stays_decided (Ok version) true name used bytes more within = ap Opens (drop-append-le used bytes more within)
+stays_decided (Ok version) true name used bytes more within = ap (Opens version) (drop-append-le used bytes more within)
 
 stays_answer : (own : List ℕ) (peers : List (List ℕ)) (a b : Answer) (bytes more : List ℕ) → Stays (by_answer a bytes) more (by_answer b (bytes ++ more)) → answer_of own peers bytes ≡ a → answer_of own peers (bytes ++ more) ≡ b
     → Stays (by_answer (answer_of own peers bytes) bytes) more (by_answer (answer_of own peers (bytes ++ more)) (bytes ++ more))
@@ -269,8 +269,8 @@ answer_stays_by own peers (Some lacks.More) bytes more is =
     let here : answer_of own peers bytes ≡ answers.More = ap (λ (l : Option NoLine). answered l (to_lines own peers bytes) (length bytes)) is in
     stays_answer own peers answers.More (answer_of own peers (bytes ++ more)) bytes more tt here refl
 
-pub status_stays : (bytes more : List ℕ) → Stays (by_status (status_of bytes) bytes) more (by_status (status_of (bytes ++ more)) (bytes ++ more))
-status_stays bytes more = status_stays_by (no_line bytes) bytes more refl
+pub status_stays : (version : Version) (bytes more : List ℕ) → Stays (by_status version (status_of bytes) bytes) more (by_status version (status_of (bytes ++ more)) (bytes ++ more))
+status_stays version bytes more = status_stays_by version (no_line bytes) bytes more refl
 
 pub answer_stays : (own : List ℕ) (peers : List (List ℕ)) (bytes more : List ℕ) → Stays (by_answer (answer_of own peers bytes) bytes) more (by_answer (answer_of own peers (bytes ++ more)) (bytes ++ more))
 answer_stays own peers bytes more = answer_stays_by own peers (no_lines 3 bytes) bytes more refl

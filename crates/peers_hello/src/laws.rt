@@ -13,9 +13,9 @@ pub fn what_is_written_is_accepted()
 {}
 
 /// What follows decides nothing. Once the first bytes amount to a status or to a hello, or to neither, they do so with more
-/// bytes after them, and those come after the bytes that were left.
+/// bytes after them, with the same version and the same code, and those come after the bytes that were left.
 pub fn what_follows_decides_nothing()
-    ensures status { (bytes more : List ℕ) → Stays (by_status (status_of bytes) bytes) more (by_status (status_of (bytes ++ more)) (bytes ++ more)) }
+    ensures status { (version : Version) (bytes more : List ℕ) → Stays (by_status version (status_of bytes) bytes) more (by_status version (status_of (bytes ++ more)) (bytes ++ more)) }
     ensures hello { (own : List ℕ) (peers : List (List ℕ)) (bytes more : List ℕ) →
         Stays (by_answer (answer_of own peers bytes) bytes) more (by_answer (answer_of own peers (bytes ++ more)) (bytes ++ more)) }
     ensures accepted { (own : List ℕ) (peers : List (List ℕ)) (bytes more name : List ℕ) (version : Version) (used : ℕ) →

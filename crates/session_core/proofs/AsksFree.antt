@@ -14,10 +14,11 @@ use Rattle.session_core.specs.Phases as phases
 use Rattle.session_core.specs.Shares.{is_out, next_table}
 use Rattle.session_core.specs.Courses.{Course, table_to_ask}
 use Rattle.session_core.specs.Sessions.{GoesIn}
-use Rattle.session_core.specs.Standing.{StandingState, Does, task_at, TakesTurn, Stands}
+use Rattle.session_core.specs.Standing.{StandingState, Does, task_at, TakesTurn, Stands, speaking_v21}
 use Rattle.session_core.specs.Runs.{copies}
 use Rattle.session_core.specs.StandingRuns.{Happening, Lasts, BeginsToStay, handed}
 use Rattle.session_core.specs.StandingSteps.{is_quiet}
+use Rattle.session_core.proofs.BegunToStay.{begins_v21}
 use Rattle.session_core.proofs.ShareLemmas.{ids_of, shares_in, IsFree, next_free}
 use Rattle.session_core.proofs.NamesKept.{copied_is_asked, copies_begun}
 use Rattle.session_core.proofs.RunLemmas.{IsKeptIn, IsSound}
@@ -78,7 +79,7 @@ free_does tasks.Begin ids steps s e c now acts table stands sound (due, begun, s
 
 asks_free : (roster : List Definition) (begun s e : StandingState) (steps : List Happening) (c : Course) (now : ℕ) (acts : List Action) (table : ℕ) → BeginsToStay roster begun → Lasts begun steps s → s.session.phase ≡ phases.Open c → Stands s now events.Turn acts e → copies table acts ≡ true → IsFreeIn table c.teaching c.shares
 asks_free roster begun s e steps c now acts table (first, since, begins, is) lasts stands turns copied =
-    let start : IsKeptIn (ids_of roster) [] begun.session.phase = subst (λ (x : StandingState). IsKeptIn (ids_of roster) [] x.session.phase) (sym is) (begun_kept roster first begins) in
+    let start : IsKeptIn (ids_of roster) [] begun.session.phase = subst (λ (x : StandingState). IsKeptIn (ids_of roster) [] x.session.phase) (sym is) (begun_kept roster (speaking_v21 first) (begins_v21 roster first begins)) in
     let ids : List ℕ = ids_of (rest_after roster steps) in
     let kept : IsKeptIn ids (handed steps) s.session.phase = lasts_kept steps roster [] begun s start lasts in
     let sound : IsSound ids (handed steps) c = subst (IsKeptIn ids (handed steps)) stands kept in

@@ -1,5 +1,5 @@
 -- Bytes that may come are refused only if memory runs out.
-use Rattle.std.proofs.Common.{◌≡◌, Bool, true, Ok, Err, Result, refl, sym, ◌∙◌, subst}
+use Rattle.std.proofs.Common.{◌≡◌, Bool, true, Ok, Err, Result, sym, subst}
 use Rattle.std.specs.Prelude.{IfErr, IsErrAnd}
 use Rattle.std.proofs.lemmas.Bool.{false≢true}
 use Rattle.session_core.specs.declared.error.SessionError.{SessionError}

@@ -5,6 +5,8 @@ use Rattle.std.specs.Fmt.{decimal}
 use Rattle.std.specs.List.{AllByRecursion, cons_option}
 use Rattle.std.proofs.lemmas.List.Folds.{list_any-append}
 use Rattle.table_types.specs.Tables.{Definition}
+use Rattle.table_types.specs.declared.version.Version.{Version}
+use Rattle.table_types.specs.declared.version.Version.TheVariants as versions
 use Rattle.peers_msg.specs.declared.control.Control.{Control}
 use Rattle.peers_msg.specs.declared.control.Control.TheVariants as controls
 use Rattle.peers_msg.specs.declared.message.Message.{Message}
@@ -20,6 +22,7 @@ use Rattle.session_core.specs.declared.action.Action.TheVariants as actions
 use Rattle.session_core.specs.Actions.{control_text, sends_acks, status_text, reopens}
 use Rattle.session_core.specs.Acks.{ack_of}
 use Rattle.session_core.specs.Courses.{Course, message_received, said, requested, ack_received, acknowledged, AreReceived}
+use Rattle.session_core.specs.Sessions.{opening}
 use Rattle.session_core.specs.Cutting.{without_acks}
 use Rattle.session_core.specs.Runs.{is_end, ends_resync, is_copy_of, copies}
 
@@ -34,6 +37,14 @@ plain_append id xs ys (one, other) (ends, copied) =
 pub plain_reopens : (id : ℕ) (ss : List Share) → is_plain id (reopens ss)
 plain_reopens id [] = (refl, refl)
 plain_reopens id (s ∷ ss) = plain_reopens id ss
+
+plain_opening : (id : ℕ) (version : Version) (ss : List Share) → is_plain id (opening version ss)
+plain_opening id versions.V20 ss = plain_reopens id ss
+plain_opening id versions.V21 ss = (refl, refl)
+
+-- what a session does on becoming Ready
+pub plain_ready : (id : ℕ) (first : Action) (version : Version) (ss : List Share) → is_plain id (first ∷ []) → is_plain id (first ∷ opening version ss)
+plain_ready id first version ss plain = plain_append id (first ∷ []) (opening version ss) plain (plain_opening id version ss)
 
 plain_requested : (id : ℕ) (b : Bool) (c : Course) → is_plain id (requested b c).0
 plain_requested id true c = (refl, refl)

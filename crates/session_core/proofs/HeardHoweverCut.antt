@@ -52,14 +52,14 @@ end_told (Err halts.Memory) = []
 
 -- the session `s` once it is over
 abbrev pub over_with : SessionState → Option Fault → List Action → SessionState
-over_with s fault acts = record { phase = phases.Ended; known = s.known; fault = fault; confirmed = s.confirmed || confirms acts }
+over_with s fault acts = record s { phase = phases.Ended; fault = fault; confirmed = s.confirmed || confirms acts }
 
 -- The session `s` is `e` after the messages, whose end is this: open, with the intake `y` and what is shared, in which `left`
 -- await their answers and `k` is shared then; or over.
 abbrev pub Leaves : (ℕ → ℕ → Bool) → Course → Bool → SessionState → Result (Unit {0}) Halt → Taking → Sharing → List Action → SessionState → List (ℕ × ℕ) → Type 0
 Leaves settles c before s (Ok u) y k acts e left =
     (b : Sharing)
-    × (e ≡ record { phase = phases.Open (course_of c (with_due y []) b (dues_of left)); known = s.known; fault = s.fault; confirmed = s.confirmed || confirms acts })
+    × (e ≡ record s { phase = phases.Open (course_of c (with_due y []) b (dues_of left)); confirmed = s.confirmed || confirms acts })
     × (all_answered settles left b ≡ k)
     × (b.reopened ≡ (before || list_any is_reopen acts))
 Leaves settles c before s (Err halts.Failed) y k acts e left = e ≡ over_with s s.fault acts
@@ -126,7 +126,7 @@ passed_acks c = by (due_acks c.intake)
 
 -- the session after the bytes, as the one before them with what they told
 abbrev pub stepped : SessionState → Phase → List Action → SessionState
-stepped s phase acts = record { phase = phase; known = s.known; fault = s.fault; confirmed = s.confirmed || confirms acts }
+stepped s phase acts = record s { phase = phase; confirmed = s.confirmed || confirms acts }
 
 leaves_both : (settles : ℕ → ℕ → Bool) (c : Course) (before now : Bool) (s e : SessionState) (phase : Phase) (end : Result (Unit {0}) Halt) (y z : Taking) (k l : Sharing) (acts others : List Action) (left : List (ℕ × ℕ))
     → with_due z [] ≡ with_due y [] → l ≡ k → now ≡ (before || list_any is_reopen acts) → Leaves settles c now (stepped s phase acts) end y k others e left → Leaves settles c before s end z l (acts ++ others) e left
@@ -134,14 +134,14 @@ leaves_both settles c before now s e phase (Ok u) y z k l acts others left same 
   b,
   ends
       ∙ ap (λ (x : Taking). stepped (stepped s phase acts) (phases.Open (course_of c x b (dues_of left))) others) (sym same)
-      ∙ ap (λ (said : Bool). record { phase = phases.Open (course_of c (with_due z []) b (dues_of left)); known = s.known; fault = s.fault; confirmed = said }) (confirmed_both s.confirmed acts others),
+      ∙ ap (λ (said : Bool). record s { phase = phases.Open (course_of c (with_due z []) b (dues_of left)); confirmed = said }) (confirmed_both s.confirmed acts others),
   answers ∙ sym is,
   later ∙ ap (λ (r : Bool). r || list_any is_reopen others) again ∙ reopened_both before acts others,
 )
 leaves_both settles c before now s e phase (Err halts.Failed) y z k l acts others left same is again ends =
-    ends ∙ ap (λ (said : Bool). record { phase = phases.Ended; known = s.known; fault = s.fault; confirmed = said }) (confirmed_both s.confirmed acts others)
+    ends ∙ ap (λ (said : Bool). record s { phase = phases.Ended; confirmed = said }) (confirmed_both s.confirmed acts others)
 leaves_both settles c before now s e phase (Err (halts.Fault fault)) y z k l acts others left same is again ends =
-    ends ∙ ap (λ (said : Bool). record { phase = phases.Ended; known = s.known; fault = Some fault; confirmed = said }) (confirmed_both s.confirmed acts others)
+    ends ∙ ap (λ (said : Bool). record s { phase = phases.Ended; fault = Some fault; confirmed = said }) (confirmed_both s.confirmed acts others)
 leaves_both settles c before now s e phase (Err halts.Memory) y z k l acts others left same is again ends = absurd ends
 
 -- the messages of a piece that leaves the session open, and what follows
@@ -193,9 +193,9 @@ Follows settles c steps e left =
     → s.phase ≡ phases.Open (course_of c (with_due x []) a (dues_of acks)) → Fits settles over acks a k → Hears settles s acks steps e left
     → Comes requested_in settles c a.reopened (with_due x []) k over s (heard_in steps) (asked_in steps) e left
 
--- a piece of an open session, or the rest of the one that opened it, after what is sent first
+-- a piece of an open session, or the rest of the one that opened it, after what is done first
 abbrev pub says_nothing : List Action → Type 0
-says_nothing first = (plain first ≡ []) × (passed_on first ≡ []) × (list_any is_reopen first ≡ false)
+says_nothing first = (plain first ≡ []) × (passed_on first ≡ [])
 
 -- the actions of a piece, without what is sent first
 pub piece_plain : (first given last acts : List Action) → says_nothing first → acts ≡ (first ++ given) ++ last → plain acts ≡ plain given ++ plain last
@@ -219,14 +219,13 @@ piece_told settles over first given last acts tells silent is ends says =
     ∙ ap (λ (xs : List Action). without_late settles over (plain given) ++ xs) ends
     ∙ ap (λ (xs : List Action). xs ++ last) says
 
-piece_reopens : (first given last acts : List Action) → says_nothing first → list_any is_reopen last ≡ false → acts ≡ (first ++ given) ++ last → list_any is_reopen acts ≡ list_any is_reopen given
-piece_reopens first given last acts silent none is =
+piece_reopens : (first given last acts : List Action) → list_any is_reopen last ≡ false → acts ≡ (first ++ given) ++ last → list_any is_reopen acts ≡ (list_any is_reopen first || list_any is_reopen given)
+piece_reopens first given last acts none is =
     ap (λ (xs : List Action). list_any is_reopen xs) is
     ∙ list_any-append is_reopen (first ++ given) last
     ∙ ap (λ (b : Bool). list_any is_reopen (first ++ given) || b) none
     ∙ or_false (list_any is_reopen (first ++ given))
     ∙ list_any-append is_reopen first given
-    ∙ ap (λ (b : Bool). b || list_any is_reopen given) silent.2
 
 acks_reopen : (c : Course) → list_any is_reopen (acks_given c) ≡ false
 acks_reopen c = by (due_acks c.intake)
@@ -235,13 +234,13 @@ acks_reopen c = by (due_acks c.intake)
     by [] = refl
     by (m ∷ ms) = refl
 
-piece_open : (settles : ℕ → ℕ → Bool) (c m : Course) (x : Taking) (a k : Sharing) (over : List ℕ) (s mid e : SessionState) (bytes : List ℕ) (first given acts : List Action) (ts : List Taken) (steps : List (Event × List Action)) (left : List (ℕ × ℕ))
-    → says_nothing first → IsBytes ((x.unread ++ bytes) ++ heard_in steps) → x.roster ≡ c.intake.roster → Fits settles over [] a k
+piece_open : (settles : ℕ → ℕ → Bool) (before : Bool) (c m : Course) (x : Taking) (a k : Sharing) (over : List ℕ) (s mid e : SessionState) (bytes : List ℕ) (first given acts : List Action) (ts : List Taken) (steps : List (Event × List Action)) (left : List (ℕ × ℕ))
+    → says_nothing first → a.reopened ≡ (before || list_any is_reopen first) → IsBytes ((x.unread ++ bytes) ++ heard_in steps) → x.roster ≡ c.intake.roster → Fits settles over [] a k
     → AreReceived (course_of c (fed x bytes) a []) ts given m → IntakeNext m.intake (Ok None) m.intake
     → acts ≡ (first ++ given) ++ acks_given m → mid ≡ stepped s (phases.Open (acks_sent m)) acts
     → Follows settles c steps e left → Hears settles mid (passed_on acts) steps e left
-    → Comes requested_in settles c a.reopened x k over s (bytes ++ heard_in steps) (acts ++ asked_in steps) e left
-piece_open settles c m x a k over s mid e bytes first given acts ts steps left silent good same fits gets waits is stands follows hears =
+    → Comes requested_in settles c before x k over s (bytes ++ heard_in steps) (acts ++ asked_in steps) e left
+piece_open settles before c m x a k over s mid e bytes first given acts ts steps left silent opened good same fits gets waits is stands follows hears =
     let roster : List Definition = c.intake.roster in
     let y : Taking = m.intake in
     let here : IsBytes (x.unread ++ bytes) = front_good (x.unread ++ bytes) (heard_in steps) good in
@@ -258,14 +257,18 @@ piece_open settles c m x a k over s mid e bytes first given acts ts steps left s
     subst (λ (p : List (ℕ × ℕ)). Fits settles (over_by settles over (plain given)) p b (left_by requested_in settles roster k ts)) (sym passed) moved.1.2 in
     let good_then : IsBytes (y.unread ++ heard_in steps) = append_good y.unread (heard_in steps) (taken_good ts (fed x bytes) y here takes) (after_good (x.unread ++ bytes) (heard_in steps) good) in
     let later = follows mid y b (left_by requested_in settles roster k ts) (over_by settles over (plain given)) (passed_on acts) good_then (waits.0, waits.1, refl) moved.0 opens fits_then hears in
-    let again : b.reopened ≡ (a.reopened || list_any is_reopen acts) = moved.1.4 ∙ ap (λ (r : Bool). a.reopened || r) (sym (piece_reopens first given (acks_given m) acts silent (acks_reopen m) is)) in
-    on_comes requested_in settles c a.reopened b.reopened x y k over s mid e bytes (heard_in steps) ts given acts (asked_in steps) left (phases.Open (acks_sent m)) here takes plainly moved.1.3 again stands later
+    let again : b.reopened ≡ (before || list_any is_reopen acts) =
+    moved.1.4
+    ∙ ap (λ (r : Bool). r || list_any is_reopen given) opened
+    ∙ or_group before (list_any is_reopen first) (list_any is_reopen given)
+    ∙ ap (λ (r : Bool). before || r) (sym (piece_reopens first given (acks_given m) acts (acks_reopen m) is)) in
+    on_comes requested_in settles c before b.reopened x y k over s mid e bytes (heard_in steps) ts given acts (asked_in steps) left (phases.Open (acks_sent m)) here takes plainly moved.1.3 again stands later
 
-pub piece_comes : (settles : ℕ → ℕ → Bool) (c : Course) (x : Taking) (a k : Sharing) (over : List ℕ) (s mid e : SessionState) (bytes : List ℕ) (first acts : List Action) (steps : List (Event × List Action)) (left : List (ℕ × ℕ))
-    → says_nothing first → IsBytes ((x.unread ++ bytes) ++ heard_in steps) → x.roster ≡ c.intake.roster → Fits settles over [] a k
+pub piece_comes : (settles : ℕ → ℕ → Bool) (before : Bool) (c : Course) (x : Taking) (a k : Sharing) (over : List ℕ) (s mid e : SessionState) (bytes : List ℕ) (first acts : List Action) (steps : List (Event × List Action)) (left : List (ℕ × ℕ))
+    → says_nothing first → a.reopened ≡ (before || list_any is_reopen first) → IsBytes ((x.unread ++ bytes) ++ heard_in steps) → x.roster ≡ c.intake.roster → Fits settles over [] a k
     → ReceivesBytes s (course_of c (fed x bytes) a []) first acts mid → Follows settles c steps e left → Hears settles mid (passed_on acts) steps e left
-    → Comes requested_in settles c a.reopened x k over s (bytes ++ heard_in steps) (acts ++ asked_in steps) e left
-piece_comes settles c x a k over s mid e bytes first acts steps left silent good same fits (end, given, m, receives, concludes) follows hears =
+    → Comes requested_in settles c before x k over s (bytes ++ heard_in steps) (acts ++ asked_in steps) e left
+piece_comes settles before c x a k over s mid e bytes first acts steps left silent opened good same fits (end, given, m, receives, concludes) follows hears =
     let got = received s (course_of c (fed x bytes) a []) m first given acts mid end receives concludes in
     by end got.0 got.1 got.2 got.3 got.4
   where
@@ -273,27 +276,27 @@ piece_comes settles c x a k over s mid e bytes first acts steps left silent good
     moves ts n gets = (messages_move settles c.intake.roster ts c (fed x bytes) [] over [] a k given n same fits gets).1.3
 
     by : (end : Result (Unit {0}) Halt) (ts : List Taken) (n : Course) → AreReceived (course_of c (fed x bytes) a []) ts given n → Ends n end → Concludes s n end (first ++ given) acts mid
-        → Comes requested_in settles c a.reopened x k over s (bytes ++ heard_in steps) (acts ++ asked_in steps) e left
-    by (Ok u) ts n gets ends (is, stands) = piece_open settles c n x a k over s mid e bytes first given acts ts steps left silent good same fits gets ends is stands follows hears
+        → Comes requested_in settles c before x k over s (bytes ++ heard_in steps) (acts ++ asked_in steps) e left
+    by (Ok u) ts n gets ends (is, stands) = piece_open settles before c n x a k over s mid e bytes first given acts ts steps left silent opened good same fits gets ends is stands follows hears
     by (Err halts.Failed) ts n gets ends (is, stands) =
         let takes = taken_received ts (course_of c (fed x bytes) a []) n given gets in
         let says = piece_told settles over first given (actions.Close ∷ []) acts (told_by requested_in settles c.intake.roster k ts) silent is refl (moves ts n gets) in
-        over_comes requested_in settles c a.reopened x n.intake k over s mid e bytes steps ts given acts left (Err halts.Failed) takes (over_ends n (Err halts.Failed) ends) says stands (none_follow settles mid e (passed_on acts) left steps (ap (λ (t : SessionState). t.phase) stands) hears)
+        over_comes requested_in settles c before x n.intake k over s mid e bytes steps ts given acts left (Err halts.Failed) takes (over_ends n (Err halts.Failed) ends) says stands (none_follow settles mid e (passed_on acts) left steps (ap (λ (t : SessionState). t.phase) stands) hears)
     by (Err (halts.Fault fault)) ts n gets ends (is, stands) =
         let takes = taken_received ts (course_of c (fed x bytes) a []) n given gets in
         let says = piece_told settles over first given (actions.Part (kind_of_fault fault) ∷ []) acts (told_by requested_in settles c.intake.roster k ts) silent is refl (moves ts n gets) in
-        over_comes requested_in settles c a.reopened x n.intake k over s mid e bytes steps ts given acts left (Err (halts.Fault fault)) takes (over_ends n (Err (halts.Fault fault)) ends) says stands (none_follow settles mid e (passed_on acts) left steps (ap (λ (t : SessionState). t.phase) stands) hears)
+        over_comes requested_in settles c before x n.intake k over s mid e bytes steps ts given acts left (Err (halts.Fault fault)) takes (over_ends n (Err (halts.Fault fault)) ends) says stands (none_follow settles mid e (passed_on acts) left steps (ap (λ (t : SessionState). t.phase) stands) hears)
     by (Err halts.Memory) ts n gets ends concludes = absurd concludes
 
 -- actions that confirm as others do
 pub confirmed_same : (settles : ℕ → ℕ → Bool) (c : Course) (before now : Bool) (s e : SessionState) (phase : Phase) (end : Result (Unit {0}) Halt) (y : Taking) (k : Sharing) (acts others : List Action) (left : List (ℕ × ℕ))
-    → confirms acts ≡ confirms others → (now || list_any is_reopen acts) ≡ (before || list_any is_reopen others) → Leaves settles c now (record { phase = phase; known = s.known; fault = s.fault; confirmed = s.confirmed }) end y k acts e left → Leaves settles c before s end y k others e left
+    → confirms acts ≡ confirms others → (now || list_any is_reopen acts) ≡ (before || list_any is_reopen others) → Leaves settles c now (record s { phase = phase }) end y k acts e left → Leaves settles c before s end y k others e left
 confirmed_same settles c before now s e phase (Ok u) y k acts others left same again (b, ends, answers, later) =
-    (b, ends ∙ ap (λ (said : Bool). record { phase = phases.Open (course_of c (with_due y []) b (dues_of left)); known = s.known; fault = s.fault; confirmed = s.confirmed || said }) same, answers, later ∙ again)
+    (b, ends ∙ ap (λ (said : Bool). record s { phase = phases.Open (course_of c (with_due y []) b (dues_of left)); confirmed = s.confirmed || said }) same, answers, later ∙ again)
 confirmed_same settles c before now s e phase (Err halts.Failed) y k acts others left same again ends =
-    ends ∙ ap (λ (said : Bool). record { phase = phases.Ended; known = s.known; fault = s.fault; confirmed = s.confirmed || said }) same
+    ends ∙ ap (λ (said : Bool). record s { phase = phases.Ended; confirmed = s.confirmed || said }) same
 confirmed_same settles c before now s e phase (Err (halts.Fault fault)) y k acts others left same again ends =
-    ends ∙ ap (λ (said : Bool). record { phase = phases.Ended; known = s.known; fault = Some fault; confirmed = s.confirmed || said }) same
+    ends ∙ ap (λ (said : Bool). record s { phase = phases.Ended; fault = Some fault; confirmed = s.confirmed || said }) same
 confirmed_same settles c before now s e phase (Err halts.Memory) y k acts others left same again ends = absurd ends
 
 -- ---- events one after another
@@ -304,14 +307,14 @@ pub none_comes : (asks : Sharing → Sharing) (settles : ℕ → ℕ → Bool) (
     → Comes asks settles c a.reopened (with_due x []) k over s [] [] e left
 none_comes asks settles c s e x a k over acks left waits opens fits (here, is) =
     let phase : e.phase ≡ phases.Open (course_of c (with_due x []) a (dues_of left)) = ap (λ (t : SessionState). t.phase) here ∙ opens ∙ ap (λ (p : List (ℕ × ℕ)). phases.Open (course_of c (with_due x []) a (dues_of p))) (sym is) in
-    let stands : e ≡ record { phase = phases.Open (course_of c (with_due x []) a (dues_of left)); known = s.known; fault = s.fault; confirmed = s.confirmed || false } =
+    let stands : e ≡ record s { phase = phases.Open (course_of c (with_due x []) a (dues_of left)); confirmed = s.confirmed || false } =
     as_it_is e s here
-    ∙ ap (λ (p : Phase). record { phase = p; known = s.known; fault = s.fault; confirmed = s.confirmed }) phase
-    ∙ ap (λ (b : Bool). record { phase = phases.Open (course_of c (with_due x []) a (dues_of left)); known = s.known; fault = s.fault; confirmed = b }) (sym (or_false s.confirmed)) in
+    ∙ ap (λ (p : Phase). record s { phase = p }) phase
+    ∙ ap (λ (b : Bool). record s { phase = phases.Open (course_of c (with_due x []) a (dues_of left)); confirmed = b }) (sym (or_false s.confirmed)) in
     ([], with_due x [], Ok tt, taken_none (with_due x []), waits, refl, (a, stands, subst (λ (p : List (ℕ × ℕ)). all_answered settles p a ≡ k) (sym is) fits.0, sym (or_false a.reopened)))
   where
-    as_it_is : (e s : SessionState) → e ≡ s → e ≡ record { phase = e.phase; known = s.known; fault = s.fault; confirmed = s.confirmed }
-    as_it_is e s here = ap (λ (t : SessionState). record { phase = e.phase; known = t.known; fault = t.fault; confirmed = t.confirmed }) here
+    as_it_is : (e s : SessionState) → e ≡ s → e ≡ record s { phase = e.phase }
+    as_it_is e s here = ap (λ (t : SessionState). record t { phase = e.phase }) here
 
 -- an answer that settles so, and what follows
 pub answer_next : (asks : Sharing → Sharing) (settles : ℕ → ℕ → Bool) (c : Course) (s mid e : SessionState) (x : Taking) (a b k : Sharing) (over : List ℕ) (rest left : List (ℕ × ℕ)) (bytes : List ℕ) (acts others : List Action)
@@ -323,7 +326,7 @@ answer_next asks settles c s mid e x a b k over rest left bytes acts others (not
     let said : confirms (acts ++ others) ≡ confirms others = confirms_append acts others ∙ ap (λ (y : Bool). y || confirms others) none in
     let again : (b.reopened || list_any is_reopen others) ≡ (a.reopened || list_any is_reopen (acts ++ others)) = ap (λ (r : Bool). r || list_any is_reopen others) reopened ∙ reopened_both a.reopened acts others in
     let l : Sharing = left_by asks settles c.intake.roster k ts in
-    let there : Leaves settles c b.reopened (record { phase = phase; known = s.known; fault = s.fault; confirmed = s.confirmed }) end y l others e left = subst (λ (t : SessionState). Leaves settles c b.reopened t end y l others e left) stands leaves in
+    let there : Leaves settles c b.reopened (record s { phase = phase }) end y l others e left = subst (λ (t : SessionState). Leaves settles c b.reopened t end y l others e left) stands leaves in
     (ts, y, end, takes, ends, ap (without_late settles over) says ∙ tells, confirmed_same settles c a.reopened b.reopened s e phase end y l others (acts ++ others) left (sym said) again there)
 
 -- what an answer makes of an open session
@@ -370,7 +373,7 @@ bytes_come settles c s mid e x a k over acks rest left bytes acts steps good sam
     let gets : ReceivesBytes s (course_of c (fed x bytes) a []) [] acts mid = subst (λ (p : List (ℕ × ℕ)). ReceivesBytes s (course_of c (fed x bytes) a (dues_of p)) [] acts mid) none there.1 in
     let fits_now : Fits settles over [] a k = subst (λ (p : List (ℕ × ℕ)). Fits settles over p a k) none fits in
     let is : rest ≡ passed_on acts = is_rest ∙ ap (λ (p : List (ℕ × ℕ)). p ++ passed_on acts) none in
-    piece_comes settles c x a k over s mid e bytes [] acts steps left (refl, refl, refl) good same fits_now gets follows (subst (λ (p : List (ℕ × ℕ)). Hears settles mid p steps e left) is hears)
+    piece_comes settles a.reopened c x a k over s mid e bytes [] acts steps left (refl, refl) (sym (or_false a.reopened)) good same fits_now gets follows (subst (λ (p : List (ℕ × ℕ)). Hears settles mid p steps e left) is hears)
 
 pub follows_all : (settles : ℕ → ℕ → Bool) (c : Course) (e : SessionState) (left : List (ℕ × ℕ)) (steps : List (Event × List Action)) → Follows settles c steps e left
 follows_all settles c e left [] s x a k over acks good waits same opens fits hears = none_comes requested_in settles c s e x a k over acks left waits opens fits hears
@@ -466,7 +469,7 @@ ends_alike : (settles : ℕ → ℕ → Bool) (c : Course) (before : Bool) (s : 
 ends_alike settles c before s (Ok u) y k acts given e end left over same (b, stands, answers, later) (d, stands', answers', later') (inl none) (inl none') =
     let is_b : b ≡ k = sym (ap (λ (p : List (ℕ × ℕ)). all_answered settles p b) none) ∙ answers in
     let is_d : d ≡ k = sym (ap (λ (p : List (ℕ × ℕ)). all_answered settles p d) none') ∙ answers' in
-    let on : List (ℕ × ℕ) → Sharing → Bool → SessionState = λ p a said. record { phase = phases.Open (course_of c (with_due y []) a (dues_of p)); known = s.known; fault = s.fault; confirmed = s.confirmed || said } in
+    let on : List (ℕ × ℕ) → Sharing → Bool → SessionState = λ p a said. record s { phase = phases.Open (course_of c (with_due y []) a (dues_of p)); confirmed = s.confirmed || said } in
     stands
     ∙ ap (λ (p : List (ℕ × ℕ)). on p b (confirms acts)) none
     ∙ ap (λ (a : Sharing). on [] a (confirms acts)) (is_b ∙ sym is_d)
@@ -480,9 +483,9 @@ ends_alike settles c before s (Ok u) y k acts given e end left over same (b, sta
     let never : phases.Open (course_of c (with_due y []) d (dues_of over)) ≡ phases.Ended = sym (ap (λ (t : SessionState). t.phase) stands') ∙ ended in
     absurd cc
 ends_alike settles c before s (Err halts.Failed) y k acts given e end left over same stands stands' wanted wanted' =
-    stands ∙ ap (λ (said : Bool). record { phase = phases.Ended; known = s.known; fault = s.fault; confirmed = s.confirmed || said }) same ∙ sym stands'
+    stands ∙ ap (λ (said : Bool). record s { phase = phases.Ended; confirmed = s.confirmed || said }) same ∙ sym stands'
 ends_alike settles c before s (Err (halts.Fault fault)) y k acts given e end left over same stands stands' wanted wanted' =
-    stands ∙ ap (λ (said : Bool). record { phase = phases.Ended; known = s.known; fault = Some fault; confirmed = s.confirmed || said }) same ∙ sym stands'
+    stands ∙ ap (λ (said : Bool). record s { phase = phases.Ended; fault = Some fault; confirmed = s.confirmed || said }) same ∙ sym stands'
 ends_alike settles c before s (Err halts.Memory) y k acts given e end left over same stands stands' wanted wanted' = absurd stands
 
 reopens_alike : (settles : ℕ → ℕ → Bool) (c : Course) (s : SessionState) (how : Result (Unit {0}) Halt) (y : Taking) (k : Sharing) (acts given : List Action) (e end : SessionState) (left over : List (ℕ × ℕ))

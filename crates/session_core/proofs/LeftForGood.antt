@@ -7,6 +7,8 @@ use Rattle.std.proofs.lemmas.Bool.{cases_eq, eq-eqb, ne_eqb, false≢true}
 use Rattle.std.proofs.lemmas.List.Folds.{list_any-append}
 use Rattle.table_types.specs.declared.copies.Settled.{Settled}
 use Rattle.table_types.specs.declared.copies.Settled.TheVariants as settles
+use Rattle.table_types.specs.declared.version.Version.{Version}
+use Rattle.table_types.specs.declared.version.Version.TheVariants as versions
 use Rattle.known_state.specs.Known.{KnownState}
 use Rattle.peers_msg.specs.declared.control.Control.{Control}
 use Rattle.peers_msg.specs.declared.control.Control.TheVariants as controls
@@ -38,7 +40,7 @@ use Rattle.session_core.specs.Shares.{any_out, all_quiet, is_out, out_set, quiet
 use Rattle.session_core.specs.Actions.{sends_control, sends_acks, status_text, reopens}
 use Rattle.session_core.specs.Acks.{ack_of}
 use Rattle.session_core.specs.Courses.{Course, course_fed, teaching_anew, requested, acknowledged, ack_received, said, message_received, AreReceived, ReceivesAll, acks_given, table_to_ask}
-use Rattle.session_core.specs.Sessions.{SessionState, going, Concludes, ReceivesBytes, IsWelcomed, Connects, Accepts, Greets, GoesIn, GoesNew, GoesHello, GoesOpen, Turns, HasNothing, FinishesResync, StartsPendingResync, Settles, only_v21}
+use Rattle.session_core.specs.Sessions.{SessionState, going, Concludes, ReceivesBytes, IsWelcomed, Connects, Accepts, Greets, GoesIn, GoesNew, GoesHello, GoesOpen, Turns, HasNothing, FinishesResync, StartsPendingResync, Settles, answer_from, opening, speaking}
 use Rattle.session_core.specs.Paces.{inferred, is_ahead}
 use Rattle.session_core.specs.Standing.{StandingState, is_reopen, changed, teaches, shared, put_off, finished_if, finishing, begun_resync, Does, task_at, TakesTurn, Writes, answer_of_refusal, Stands, without_tables, leaving, heartbeats, TicksIn, caught_up_in}
 use Rattle.session_core.specs.StandingRuns.{Happening, At, Tick, CatchUp, Happens, Lasts, acts_of, leaves, was_left}
@@ -171,6 +173,10 @@ concerns_reopens : (t : ℕ) (ss : List Share) → concerns t (reopens ss) ≡ l
 concerns_reopens t [] = refl
 concerns_reopens t (s ∷ ss) = ap (λ (b : Bool). (s.table == t) || b) (concerns_reopens t ss)
 
+concerns_opening : (t : ℕ) (version : Version) (ss : List Share) → lists t ss ≡ false → concerns t (opening version ss) ≡ false
+concerns_opening t versions.V20 ss none = concerns_reopens t ss ∙ none
+concerns_opening t versions.V21 ss none = refl
+
 concerns_acks : (t : ℕ) (ms : List Message) → concerns t (sends_acks ms) ≡ false
 concerns_acks t [] = refl
 concerns_acks t (m ∷ ms) = refl
@@ -229,23 +235,23 @@ past_concluded t s c mid (Err halts.Memory) first gs given e none plain receives
 past_receives : (t : ℕ) (s : SessionState) (c : Course) (first given : List Action) (e : SessionState) → lists t c.shares ≡ false → concerns t first ≡ false → ReceivesBytes s c first given e → concerns t given ≡ false
 past_receives t s c first given e none plain (result, gs, mid, receives, concludes) = past_concluded t s c mid result first gs given e none plain receives concludes
 
-past_welcomed : (t : ℕ) (b : Bool) (s : SessionState) (c : Course) (rest : List ℕ) (given : List Action) (e : SessionState) → lists t c.shares ≡ false → IsWelcomed b s c rest given e → concerns t given ≡ false
-past_welcomed t true s c rest given e none receives = past_receives t s (course_fed c rest) (sends_control controls.ResyncRequest ∷ []) given e none refl receives
-past_welcomed t false s c rest given e none (is, ends) = ap (concerns t) is
+past_welcomed : (t : ℕ) (b : Bool) (version : Version) (code : ℕ) (s : SessionState) (c : Course) (rest : List ℕ) (given : List Action) (e : SessionState) → lists t c.shares ≡ false → IsWelcomed b version code s c rest given e → concerns t given ≡ false
+past_welcomed t true version code s c rest given e none receives = past_receives t (speaking version s) (course_fed c rest) (sends_control controls.ResyncRequest ∷ opening version c.shares) given e none (concerns_opening t version c.shares none) receives
+past_welcomed t false version code s c rest given e none (is, ends) = ap (concerns t) is
 
-past_connects : (t : ℕ) (status : Status) (s : SessionState) (bytes : List ℕ) (c : Course) (given : List Action) (e : SessionState) → lists t c.shares ≡ false → Connects status s bytes c given e → concerns t given ≡ false
-past_connects t statuses.More s bytes c given e none (is, ends) = ap (concerns t) is
-past_connects t (statuses.Code code used) s bytes c given e none goes = past_welcomed t _ s c _ given e none goes
-past_connects t (statuses.Other used) s bytes c given e none (is, ends) = ap (concerns t) is
+past_connects : (t : ℕ) (version : Version) (status : Status) (s : SessionState) (bytes : List ℕ) (c : Course) (given : List Action) (e : SessionState) → lists t c.shares ≡ false → Connects version status s bytes c given e → concerns t given ≡ false
+past_connects t version statuses.More s bytes c given e none (is, ends) = ap (concerns t) is
+past_connects t version (statuses.Code code used) s bytes c given e none goes = past_welcomed t _ version code s c _ given e none goes
+past_connects t version (statuses.Other used) s bytes c given e none (is, ends) = ap (concerns t) is
 
 past_accepts : (t : ℕ) (answer : Answer) (s : SessionState) (greeter : Greeter) (bytes : List ℕ) (c : Course) (given : List Action) (e : SessionState) → lists t c.shares ≡ false → Accepts answer s greeter bytes c given e → concerns t given ≡ false
 past_accepts t answers.More s greeter bytes c given e none (is, ends) = ap (concerns t) is
-past_accepts t (answers.Accepted name version used) s greeter bytes c given e none goes = past_receives t s (course_fed c (drop used bytes)) (actions.Send (status_text 200) ∷ []) given e none refl goes
+past_accepts t (answers.Accepted name version used) s greeter bytes c given e none goes = past_receives t (speaking version s) (course_fed c (drop used bytes)) (actions.Send (status_text 200) ∷ opening version c.shares) given e none (concerns_opening t version c.shares none) goes
 past_accepts t (answers.Refused code used) s greeter bytes c given e none (is, ends) = ap (concerns t) is
 
 past_greets : (t : ℕ) (s : SessionState) (greeter : Greeter) (bytes : List ℕ) (c : Course) (given : List Action) (e : SessionState) → lists t c.shares ≡ false → Greets s greeter bytes c given e → concerns t given ≡ false
-past_greets t s greeters.Connects bytes c given e none goes = past_connects t (status_of bytes) s bytes c given e none goes
-past_greets t s (greeters.Accepts own peers) bytes c given e none goes = past_accepts t (only_v21 (answer_of own peers bytes)) s (greeters.Accepts own peers) bytes c given e none goes
+past_greets t s (greeters.Connects version) bytes c given e none goes = past_connects t version (status_of bytes) s bytes c given e none goes
+past_greets t s (greeters.Accepts own peers oldest) bytes c given e none goes = past_accepts t (answer_from oldest (answer_of own peers bytes)) s (greeters.Accepts own peers oldest) bytes c given e none goes
 
 past_bytes : (t : ℕ) (phase : Phase) (s : SessionState) (bytes : List ℕ) (given : List Action) (e : SessionState) → lists t (shared phase) ≡ false → GoesIn phase s (events.Bytes bytes) given e → concerns t given ≡ false
 past_bytes t (phases.New hello c) s bytes given e none goes = absurd goes

@@ -3,6 +3,7 @@ mod ReceivingLemmas
 mod EndLemmas
 mod ShareLemmas
 mod RunLemmas
+mod BegunToStay
 mod StepLemmas
 mod RunLaws
 mod AskedLaws
@@ -37,3 +38,4 @@ mod HeardHoweverCut
 mod StandingInOrder
 mod GreetedHoweverCut
 mod GreetingInOrder
+mod HelloDecides

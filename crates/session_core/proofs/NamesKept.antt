@@ -1,15 +1,13 @@
 -- No name is lost with a table that the remote peer lacks.
-use Rattle.std.proofs.Common.{◌≡◌, ℕ, Bool, true, false, not, cond, ◌&&◌, ◌||◌, eqb, List, [], ◌∷◌, ◌++◌, Option, Some, None, refl, sym, ap, ◌∙◌, subst, inl, inr}
+use Rattle.std.proofs.Common.{◌≡◌, ℕ, Bool, true, false, not, cond, ◌&&◌, ◌||◌, List, ◌∷◌, Option, Some, None, refl, sym, ap, ◌∙◌, subst, inl, inr}
 use Rattle.std.specs.List.{list_any}
 use Rattle.std.proofs.lemmas.Bool.{cases_eq, ne_eqb, false≢true}
 use Rattle.std.proofs.lemmas.List.Folds.{list_any-append}
 use Rattle.known_state.specs.Known.{without_names}
 use Rattle.session_core.specs.declared.action.Action.{Action}
-use Rattle.session_core.specs.declared.action.Action.TheVariants as actions
 use Rattle.session_core.specs.declared.event.Event.TheVariants as events
 use Rattle.session_core.specs.declared.pace.Task.{Task}
 use Rattle.session_core.specs.declared.pace.Task.TheVariants as tasks
-use Rattle.session_core.specs.declared.share.Share.{Share}
 use Rattle.session_core.specs.Phases.{Phase}
 use Rattle.session_core.specs.Phases as phases
 use Rattle.session_core.specs.Actions.{reopens}
@@ -17,7 +15,7 @@ use Rattle.session_core.specs.Shares.{any_out, all_quiet}
 use Rattle.session_core.specs.Courses.{Course, table_to_ask, teaching_anew}
 use Rattle.session_core.specs.Sessions.{SessionState, GoesIn, Turns}
 use Rattle.session_core.specs.Paces.{has_passed, push_time, is_rested, stores_names, may_lose_names, awaits_names}
-use Rattle.session_core.specs.Standing.{StandingState, Does, HandsOn, finished_if, finishing, begun_resync, task_at, TakesTurn, Stands, TicksIn, Ticks, forgetting}
+use Rattle.session_core.specs.Standing.{StandingState, Does, finished_if, finishing, begun_resync, task_at, TakesTurn, Stands, TicksIn, Ticks}
 use Rattle.session_core.specs.Runs.{is_copy_of, copies}
 use Rattle.session_core.proofs.EndLemmas.{plain_reopens}
 

@@ -4,6 +4,7 @@ use Rattle.std.specs.Prelude.{drop}
 use Rattle.std.proofs.lemmas.Bool.{false≢true}
 use Rattle.table_types.specs.declared.copies.Settled.{Settled}
 use Rattle.table_types.specs.declared.copies.Settled.TheVariants as settles
+use Rattle.table_types.specs.declared.version.Version.{Version}
 use Rattle.known_state.specs.Known.{KnownState}
 use Rattle.peers_msg.specs.declared.control.Control.TheVariants as controls
 use Rattle.peers_hello.specs.declared.hello.Hello.{Hello}
@@ -26,12 +27,12 @@ use Rattle.session_core.specs.Phases as phases
 use Rattle.session_core.specs.Shares.{is_out}
 use Rattle.session_core.specs.Actions.{sends_control, status_text}
 use Rattle.session_core.specs.Courses.{Course, course_fed, acknowledged, ack_received, ReceivesAll, acks_given}
-use Rattle.session_core.specs.Sessions.{SessionState, Concludes, ReceivesBytes, IsWelcomed, Connects, Accepts, Greets, GoesIn, GoesNew, GoesHello, GoesOpen, HasNothing, FinishesResync, StartsPendingResync, Settles, only_v21}
+use Rattle.session_core.specs.Sessions.{SessionState, Concludes, ReceivesBytes, IsWelcomed, Connects, Accepts, Greets, GoesIn, GoesNew, GoesHello, GoesOpen, HasNothing, FinishesResync, StartsPendingResync, Settles, answer_from, opening, speaking}
 use Rattle.session_core.specs.Runs.{is_copy_of, copies}
 use Rattle.session_core.specs.Paces.{inferred, is_ahead}
 use Rattle.session_core.specs.Standing.{StandingState, is_reopen, Writes, answer_of_refusal, Stands}
 use Rattle.session_core.proofs.LeftForGood.{any_filter}
-use Rattle.session_core.proofs.EndLemmas.{is_plain, plain_append, plain_all, plain_acks, plain_status, plain_reopens}
+use Rattle.session_core.proofs.EndLemmas.{is_plain, plain_append, plain_all, plain_acks, plain_ready, plain_status, plain_reopens}
 
 -- ---- bytes
 
@@ -47,23 +48,23 @@ copied_concluded t s c mid (Err halts.Memory) first gs given e plain receives co
 copied_receives : (t : ℕ) (s : SessionState) (c : Course) (first given : List Action) (e : SessionState) → is_plain t first → ReceivesBytes s c first given e → copies t given ≡ false
 copied_receives t s c first given e plain (result, gs, mid, receives, concludes) = copied_concluded t s c mid result first gs given e plain receives concludes
 
-copied_welcomed : (t : ℕ) (b : Bool) (s : SessionState) (c : Course) (rest : List ℕ) (given : List Action) (e : SessionState) → IsWelcomed b s c rest given e → copies t given ≡ false
-copied_welcomed t true s c rest given e receives = copied_receives t s (course_fed c rest) (sends_control controls.ResyncRequest ∷ []) given e (refl, refl) receives
-copied_welcomed t false s c rest given e (is, ends) = ap (copies t) is
+copied_welcomed : (t : ℕ) (b : Bool) (version : Version) (code : ℕ) (s : SessionState) (c : Course) (rest : List ℕ) (given : List Action) (e : SessionState) → IsWelcomed b version code s c rest given e → copies t given ≡ false
+copied_welcomed t true version code s c rest given e receives = copied_receives t (speaking version s) (course_fed c rest) (sends_control controls.ResyncRequest ∷ opening version c.shares) given e (plain_ready t (sends_control controls.ResyncRequest) version c.shares (refl, refl)) receives
+copied_welcomed t false version code s c rest given e (is, ends) = ap (copies t) is
 
-copied_connects : (t : ℕ) (status : Status) (s : SessionState) (bytes : List ℕ) (c : Course) (given : List Action) (e : SessionState) → Connects status s bytes c given e → copies t given ≡ false
-copied_connects t statuses.More s bytes c given e (is, ends) = ap (copies t) is
-copied_connects t (statuses.Code code used) s bytes c given e goes = copied_welcomed t _ s c _ given e goes
-copied_connects t (statuses.Other used) s bytes c given e (is, ends) = ap (copies t) is
+copied_connects : (t : ℕ) (version : Version) (status : Status) (s : SessionState) (bytes : List ℕ) (c : Course) (given : List Action) (e : SessionState) → Connects version status s bytes c given e → copies t given ≡ false
+copied_connects t version statuses.More s bytes c given e (is, ends) = ap (copies t) is
+copied_connects t version (statuses.Code code used) s bytes c given e goes = copied_welcomed t _ version code s c _ given e goes
+copied_connects t version (statuses.Other used) s bytes c given e (is, ends) = ap (copies t) is
 
 copied_accepts : (t : ℕ) (answer : Answer) (s : SessionState) (greeter : Greeter) (bytes : List ℕ) (c : Course) (given : List Action) (e : SessionState) → Accepts answer s greeter bytes c given e → copies t given ≡ false
 copied_accepts t answers.More s greeter bytes c given e (is, ends) = ap (copies t) is
-copied_accepts t (answers.Accepted name version used) s greeter bytes c given e goes = copied_receives t s (course_fed c (drop used bytes)) (actions.Send (status_text 200) ∷ []) given e (plain_status t 200) goes
+copied_accepts t (answers.Accepted name version used) s greeter bytes c given e goes = copied_receives t (speaking version s) (course_fed c (drop used bytes)) (actions.Send (status_text 200) ∷ opening version c.shares) given e (plain_ready t (actions.Send (status_text 200)) version c.shares (plain_status t 200)) goes
 copied_accepts t (answers.Refused code used) s greeter bytes c given e (is, ends) = ap (copies t) is
 
 copied_greets : (t : ℕ) (s : SessionState) (greeter : Greeter) (bytes : List ℕ) (c : Course) (given : List Action) (e : SessionState) → Greets s greeter bytes c given e → copies t given ≡ false
-copied_greets t s greeters.Connects bytes c given e goes = copied_connects t (status_of bytes) s bytes c given e goes
-copied_greets t s (greeters.Accepts own peers) bytes c given e goes = copied_accepts t (only_v21 (answer_of own peers bytes)) s (greeters.Accepts own peers) bytes c given e goes
+copied_greets t s (greeters.Connects version) bytes c given e goes = copied_connects t version (status_of bytes) s bytes c given e goes
+copied_greets t s (greeters.Accepts own peers oldest) bytes c given e goes = copied_accepts t (answer_from oldest (answer_of own peers bytes)) s (greeters.Accepts own peers oldest) bytes c given e goes
 
 copied_bytes : (t : ℕ) (phase : Phase) (s : SessionState) (bytes : List ℕ) (given : List Action) (e : SessionState) → GoesIn phase s (events.Bytes bytes) given e → copies t given ≡ false
 copied_bytes t (phases.New hello c) s bytes given e goes = absurd goes

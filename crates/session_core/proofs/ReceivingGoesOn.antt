@@ -97,7 +97,7 @@ concluded s c m first given ts (Err halts.Failed) receives ends =
 concluded s c m first given ts (Err (halts.Fault fault)) receives ends =
     let acts : List Action = (first ++ given) ++ (actions.Part (kind_of_fault fault) ∷ []) in (
       acts,
-      confirmed_by acts (record { phase = phases.Ended; known = s.known; fault = Some fault; confirmed = s.confirmed }),
+      confirmed_by acts (record s { phase = phases.Ended; fault = Some fault }),
       (Err (halts.Fault fault), given, m, (ts, m, receives, ends), (refl, refl)),
     )
 concluded s c m first given ts (Err halts.Memory) receives ends = absurd ends

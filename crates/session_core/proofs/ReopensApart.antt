@@ -22,9 +22,10 @@ use Rattle.session_core.specs.Courses.{Course, teaching_anew, acknowledged, ack_
 use Rattle.session_core.specs.Sessions.{SessionState, going, GoesIn, GoesNew, GoesHello, GoesOpen, Turns, HasNothing, FinishesResync, StartsPendingResync, Settles}
 use Rattle.session_core.specs.Runs.{IsBegun}
 use Rattle.session_core.specs.Paces.{Pace, has_passed, push_time, resync_time, is_rested, inferred, is_ahead, awaits_names}
-use Rattle.session_core.specs.Standing.{StandingState, is_reopen, without_reopens, changed, teaches, shared, put_off, finished_if, finishing, Does, task_at, TakesTurn, Writes, answer_of_refusal, Stands, without_tables, leaving, TicksIn, caught_up_in}
+use Rattle.session_core.specs.Standing.{StandingState, is_reopen, without_reopens, changed, teaches, shared, put_off, finished_if, finishing, Does, task_at, TakesTurn, Writes, answer_of_refusal, Stands, without_tables, leaving, TicksIn, caught_up_in, speaking_v21}
 use Rattle.session_core.specs.StandingRuns.{Happening, At, Tick, CatchUp, Happens, Lasts, BeginsToStay}
 use Rattle.session_core.specs.StandingSteps.{IsSince}
+use Rattle.session_core.proofs.BegunToStay.{begins_v21}
 use Rattle.session_core.proofs.StandingTimes.{begins_rested, IsBegunSince, begun_lasts, rested_since}
 
 abbrev reopens_any : List Action → Bool
@@ -244,11 +245,11 @@ prompt_lasts (one ∷ steps) s e prompt (mid, happens, lasts) = prompt_lasts ste
 
 begun_prompt : (roster : List Definition) (s : SessionState) → IsBegun roster s → IsPrompt s.phase
 begun_prompt roster s (inl (hello, up_to_date, is)) = prompt_at s _ is refl
-begun_prompt roster s (inr (own, peers, up_to_date, is)) = prompt_at s _ is refl
+begun_prompt roster s (inr (oldest, own, peers, up_to_date, is)) = prompt_at s _ is refl
 
 prompt_run : (roster : List Definition) (begun s : StandingState) (steps : List Happening) → BeginsToStay roster begun → Lasts begun steps s → IsPrompt s.session.phase
 prompt_run roster begun s steps (first, now, begins, is) lasts =
-    prompt_lasts steps begun s (subst (λ (x : StandingState). IsPrompt x.session.phase) (sym is) (begun_prompt roster first begins)) lasts
+    prompt_lasts steps begun s (subst (λ (x : StandingState). IsPrompt x.session.phase) (sym is) (begun_prompt roster (speaking_v21 first) (begins_v21 roster first begins))) lasts
 
 -- what reopens a table begins a resync
 begins_then : (s e : StandingState) (now : ℕ) (acts : List Action) → reopens_any acts ≡ true → IsRare s now acts e → (is_rested s.pace.reopened now ≡ true) × (e.pace.reopened ≡ Some now)

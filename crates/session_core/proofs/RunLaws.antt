@@ -7,6 +7,7 @@ use Rattle.std.proofs.lemmas.Bool.{false≢true}
 use Rattle.table_types.specs.Tables.{Definition}
 use Rattle.table_types.specs.declared.copies.Settled.{Settled}
 use Rattle.table_types.specs.declared.copies.Settled.TheVariants as settles
+use Rattle.table_types.specs.declared.version.Version.{Version}
 use Rattle.peers_msg.specs.declared.control.Control.TheVariants as controls
 use Rattle.peers_hello.specs.declared.hello.Hello.{Hello}
 use Rattle.peers_hello.specs.declared.hello.Answer.{Answer}
@@ -31,10 +32,10 @@ use Rattle.session_core.specs.declared.share.Share.{Share}
 use Rattle.session_core.specs.Shares.{any_out, all_quiet, quiet_set}
 use Rattle.session_core.specs.Actions.{sends_control, status_text}
 use Rattle.session_core.specs.Courses.{Course, course_fed, ReceivesAll, acks_given, table_to_ask}
-use Rattle.session_core.specs.Sessions.{SessionState, Goes, GoesIn, GoesNew, GoesHello, GoesOpen, Concludes, ReceivesBytes, IsWelcomed, Connects, Accepts, Greets, Turns, HasNothing, FinishesResync, StartsPendingResync, Settles, only_v21}
+use Rattle.session_core.specs.Sessions.{SessionState, Goes, GoesIn, GoesNew, GoesHello, GoesOpen, Concludes, ReceivesBytes, IsWelcomed, Connects, Accepts, Greets, Turns, HasNothing, FinishesResync, StartsPendingResync, Settles, answer_from, opening, speaking}
 use Rattle.session_core.specs.Runs.{Runs, IsBegun, ends_resync, HasNothingLeft, HasNothingOut}
 use Rattle.session_core.proofs.ShareLemmas.{shares_in, ids_of, shares_begin, none_out, each_quiet}
-use Rattle.session_core.proofs.EndLemmas.{is_plain, plain_append, plain_all, plain_acks, plain_status, plain_reopens}
+use Rattle.session_core.proofs.EndLemmas.{is_plain, plain_append, plain_all, plain_acks, plain_ready, plain_status, plain_reopens}
 use Rattle.session_core.proofs.RunLemmas.{IsKeptIn, IsSound}
 use Rattle.session_core.proofs.StepLemmas.{goes_kept, with_step, quieted}
 
@@ -50,7 +51,7 @@ run_kept ids before (step ∷ steps) s e kept (mid, goes, runs) =
 
 begun_kept : (roster : List Definition) (s : SessionState) → IsBegun roster s → IsKeptIn (ids_of roster) [] s.phase
 begun_kept roster s (inl (hello, up_to_date, is)) = subst (λ (x : SessionState). IsKeptIn (ids_of roster) [] x.phase) (sym is) (shares_begin roster, refl, refl)
-begun_kept roster s (inr (own, peers, up_to_date, is)) = subst (λ (x : SessionState). IsKeptIn (ids_of roster) [] x.phase) (sym is) (shares_begin roster, refl, refl)
+begun_kept roster s (inr (oldest, own, peers, up_to_date, is)) = subst (λ (x : SessionState). IsKeptIn (ids_of roster) [] x.phase) (sym is) (shares_begin roster, refl, refl)
 
 -- ---- the step that ends a resync
 
@@ -87,24 +88,24 @@ no_end_new s hello c (events.Written known) acts e goes ends = absurd goes
 no_end_new s hello c (events.Settled table settled) acts e goes ends = absurd goes
 no_end_new s hello c (events.Refused table) acts e goes ends = absurd goes
 
-no_end_welcomed : {X : Type 0} (b : Bool) (s : SessionState) (c : Course) (rest : List ℕ) (acts : List Action) (e : SessionState) → IsWelcomed b s c rest acts e → ends_resync acts ≡ true → X
-no_end_welcomed true s c rest acts e receives ends = no_end_receives s (course_fed c rest) (sends_control controls.ResyncRequest ∷ []) acts e (refl, refl) receives ends
-no_end_welcomed false s c rest acts e (is, then) ends = no_end acts (actions.Close ∷ []) is refl ends
+no_end_welcomed : {X : Type 0} (b : Bool) (version : Version) (code : ℕ) (s : SessionState) (c : Course) (rest : List ℕ) (acts : List Action) (e : SessionState) → IsWelcomed b version code s c rest acts e → ends_resync acts ≡ true → X
+no_end_welcomed true version code s c rest acts e receives ends = no_end_receives (speaking version s) (course_fed c rest) (sends_control controls.ResyncRequest ∷ opening version c.shares) acts e (plain_ready 0 (sends_control controls.ResyncRequest) version c.shares (refl, refl)) receives ends
+no_end_welcomed false version code s c rest acts e (is, then) ends = no_end acts (actions.Close ∷ []) is refl ends
 
-no_end_connects : {X : Type 0} (status : Status) (s : SessionState) (bytes : List ℕ) (c : Course) (acts : List Action) (e : SessionState) → Connects status s bytes c acts e → ends_resync acts ≡ true → X
-no_end_connects statuses.More s bytes c acts e (is, then) ends = no_end acts [] is refl ends
-no_end_connects (statuses.Code code used) s bytes c acts e goes ends = no_end_welcomed _ s c _ acts e goes ends
-no_end_connects (statuses.Other used) s bytes c acts e (is, then) ends = no_end acts (actions.Close ∷ []) is refl ends
+no_end_connects : {X : Type 0} (version : Version) (status : Status) (s : SessionState) (bytes : List ℕ) (c : Course) (acts : List Action) (e : SessionState) → Connects version status s bytes c acts e → ends_resync acts ≡ true → X
+no_end_connects version statuses.More s bytes c acts e (is, then) ends = no_end acts [] is refl ends
+no_end_connects version (statuses.Code code used) s bytes c acts e goes ends = no_end_welcomed _ version code s c _ acts e goes ends
+no_end_connects version (statuses.Other used) s bytes c acts e (is, then) ends = no_end acts (actions.Close ∷ []) is refl ends
 
 no_end_accepts : {X : Type 0} (answer : Answer) (s : SessionState) (greeter : Greeter) (bytes : List ℕ) (c : Course) (acts : List Action) (e : SessionState) → Accepts answer s greeter bytes c acts e → ends_resync acts ≡ true → X
 no_end_accepts answers.More s greeter bytes c acts e (is, then) ends = no_end acts [] is refl ends
-no_end_accepts (answers.Accepted name version used) s greeter bytes c acts e goes ends = no_end_receives s (course_fed c (drop used bytes)) (actions.Send (status_text 200) ∷ []) acts e (plain_status 0 200) goes ends
+no_end_accepts (answers.Accepted name version used) s greeter bytes c acts e goes ends = no_end_receives (speaking version s) (course_fed c (drop used bytes)) (actions.Send (status_text 200) ∷ opening version c.shares) acts e (plain_ready 0 (actions.Send (status_text 200)) version c.shares (plain_status 0 200)) goes ends
 no_end_accepts (answers.Refused code used) s greeter bytes c acts e (is, then) ends =
     no_end acts ((actions.Send (status_text code) ∷ []) ++ (actions.Close ∷ [])) is (plain_append 0 (actions.Send (status_text code) ∷ []) (actions.Close ∷ []) (plain_status 0 code) (refl, refl)).0 ends
 
 no_end_greets : {X : Type 0} (s : SessionState) (greeter : Greeter) (bytes : List ℕ) (c : Course) (acts : List Action) (e : SessionState) → Greets s greeter bytes c acts e → ends_resync acts ≡ true → X
-no_end_greets s greeters.Connects bytes c acts e goes ends = no_end_connects (status_of bytes) s bytes c acts e goes ends
-no_end_greets s (greeters.Accepts own peers) bytes c acts e goes ends = no_end_accepts (only_v21 (answer_of own peers bytes)) s (greeters.Accepts own peers) bytes c acts e goes ends
+no_end_greets s (greeters.Connects version) bytes c acts e goes ends = no_end_connects version (status_of bytes) s bytes c acts e goes ends
+no_end_greets s (greeters.Accepts own peers oldest) bytes c acts e goes ends = no_end_accepts (answer_from oldest (answer_of own peers bytes)) s (greeters.Accepts own peers oldest) bytes c acts e goes ends
 
 no_end_hello : {X : Type 0} (s : SessionState) (greeter : Greeter) (bytes : List ℕ) (c : Course) (event : Event) (acts : List Action) (e : SessionState) → GoesHello s greeter bytes c event acts e → ends_resync acts ≡ true → X
 no_end_hello s greeter bytes c (events.Bytes piece) acts e goes ends = no_end_greets s greeter (bytes ++ piece) c acts e goes ends

@@ -164,8 +164,13 @@ calm_received ids steps given c (taken.Failed kind) calm = calm_still ids steps 
 calm_receives : (ids : List ℕ) (steps : List (Event × List Action)) (given : List Action) (c e : Course) (t : Taken) → Receives c t e → IsCalmAfter ids steps given c → IsCalmAfter ids steps given e
 calm_receives ids steps given c e t (no_failure, gives, is) calm = subst (IsCalmAfter ids steps given) (sym is) calm
 
+-- a session that isn't open yet has no quiet table, whatever it does first
+pub fresh_after : (ids : List ℕ) (steps : List (Event × List Action)) (first : List Action) (c : Course) → IsFresh ids c → IsCalmAfter ids steps first c
+fresh_after ids steps first c (shares, ready, none) =
+    (never, never, (shares, λ teaching. absurd (false≢true (sym ready ∙ teaching))), rw none refl, λ teaching. absurd (false≢true (sym ready ∙ teaching)))
+
 -- receiving messages preserves it
-calm_all : (ids : List ℕ) (steps : List (Event × List Action)) (given : List Action) (c e : Course) (ts : List Taken) (acts : List Action) → AreReceived c ts acts e → IsCalmAfter ids steps given c → IsCalmAfter ids steps (given ++ acts) e
+pub calm_all : (ids : List ℕ) (steps : List (Event × List Action)) (given : List Action) (c e : Course) (ts : List Taken) (acts : List Action) → AreReceived c ts acts e → IsCalmAfter ids steps given c → IsCalmAfter ids steps (given ++ acts) e
 calm_all ids steps given c e [] acts (none, here) calm =
     subst (λ (xs : List Action). IsCalmAfter ids steps (given ++ xs) e) (sym none) (subst (IsCalmAfter ids steps (given ++ [])) (sym here) (calm_still ids steps given [] c (λ id. refl) calm))
 calm_all ids steps given c e (t ∷ ts) acts (mid, rest, receives, all, later) calm =

@@ -210,14 +210,14 @@ acts_are s e m given acts (Err halts.Memory) concludes = absurd concludes
 concludes_both : (s mid e : SessionState) (m n : Course) (after : List ℕ) (one other all g : List Action) (end : Result (Unit {0}) Halt) → mid ≡ confirmed_by one (going s (acks_sent m)) → Concludes mid n end ([] ++ g) other e
     → (given : List Action) → all ≡ given ++ last_acts (redue n after) end → ((s.confirmed || confirms one) || confirms other) ≡ (s.confirmed || confirms all) → Concludes s (redue n after) end ([] ++ given) all e
 concludes_both s mid e m n after one other all g (Ok u) left (is, ends) given is_all confirmed =
-    (is_all, ends ∙ ap (λ (x : SessionState). confirmed_by other (going x (acks_sent n))) left ∙ ap (λ (b : Bool). record { phase = phases.Open (acks_sent n); known = s.known; fault = s.fault; confirmed = b }) confirmed)
+    (is_all, ends ∙ ap (λ (x : SessionState). confirmed_by other (going x (acks_sent n))) left ∙ ap (λ (b : Bool). record s { phase = phases.Open (acks_sent n); confirmed = b }) confirmed)
 concludes_both s mid e m n after one other all g (Err halts.Failed) left (is, ends) given is_all confirmed =
-    (is_all, ends ∙ ap (λ (x : SessionState). confirmed_by other (ended x)) left ∙ ap (λ (b : Bool). record { phase = phases.Ended; known = s.known; fault = s.fault; confirmed = b }) confirmed)
+    (is_all, ends ∙ ap (λ (x : SessionState). confirmed_by other (ended x)) left ∙ ap (λ (b : Bool). record s { phase = phases.Ended; confirmed = b }) confirmed)
 concludes_both s mid e m n after one other all g (Err (halts.Fault fault)) left (is, ends) given is_all confirmed = (
   is_all,
   ends
-      ∙ ap (λ (x : SessionState). confirmed_by other (record { phase = phases.Ended; known = x.known; fault = Some fault; confirmed = x.confirmed })) left
-      ∙ ap (λ (b : Bool). record { phase = phases.Ended; known = s.known; fault = Some fault; confirmed = b }) confirmed,
+      ∙ ap (λ (x : SessionState). confirmed_by other (record x { phase = phases.Ended; fault = Some fault })) left
+      ∙ ap (λ (b : Bool). record s { phase = phases.Ended; fault = Some fault; confirmed = b }) confirmed,
 )
 concludes_both s mid e m n after one other all g (Err halts.Memory) left concludes given is_all confirmed = absurd concludes
 

@@ -21,9 +21,10 @@ use Rattle.session_core.specs.Courses.{Course, teaching_anew, acknowledged, ack_
 use Rattle.session_core.specs.Sessions.{SessionState, GoesOpen, in_phase, going, ended, is_asked}
 use Rattle.session_core.specs.Runs.{IsBegun, HoldsBytes, BringsBytes}
 use Rattle.session_core.specs.Paces.{has_passed, heartbeat_time, silence_time, renewed, inferred, is_ahead, noted, copied_in, last_number, tables_to_leave}
-use Rattle.session_core.specs.Standing.{StandingState, is_send, paced, HandsOn, without_reopens, changed, teaches, shared, is_requested, put_off, finished_if, finishing, begun_resync, Does, task_at, TakesTurn, Writes, answer_of_refusal, Stands, without_tables, leaving, heartbeats, forgetting, any_left, TicksIn, Ticks, caught_up_in}
+use Rattle.session_core.specs.Standing.{StandingState, is_send, paced, HandsOn, without_reopens, changed, teaches, shared, is_requested, put_off, finished_if, finishing, begun_resync, Does, task_at, TakesTurn, Writes, answer_of_refusal, Stands, without_tables, leaving, heartbeats, forgetting, any_left, TicksIn, Ticks, caught_up_in, speaking_v21}
 use Rattle.session_core.specs.StandingRuns.{Happening, At, Tick, CatchUp, Happens, Lasts, BeginsToStay}
 use Rattle.session_core.specs.StandingSteps.{HearsBytes}
+use Rattle.session_core.proofs.BegunToStay.{begins_v21}
 use Rattle.session_core.proofs.BytesStay.{step_holds}
 use Rattle.session_core.proofs.SomeStep.{some_step}
 use Rattle.session_core.proofs.StandingOnce.{asked_refusal}
@@ -122,7 +123,7 @@ holds_lasts (one ∷ steps) s e holds hears (mid, happens, lasts) = holds_lasts 
 
 begun_holds : (roster : List Definition) (s : SessionState) → IsBegun roster s → HoldsBytes s.phase
 begun_holds roster s (inl (hello, up_to_date, is)) = holds_at s _ is (λ i. omega arith)
-begun_holds roster s (inr (own, peers, up_to_date, is)) = holds_at s _ is ((λ i. omega arith), (λ i. omega arith))
+begun_holds roster s (inr (oldest, own, peers, up_to_date, is)) = holds_at s _ is ((λ i. omega arith), (λ i. omega arith))
 
 -- ---- some step
 
@@ -215,7 +216,7 @@ some_event (events.Settled table settled) s now holds brings asked = some_hands 
 
 pub some_stands : (roster : List Definition) (begun s : StandingState) (steps : List Happening) (now : ℕ) (event : Event) → BeginsToStay roster begun → Lasts begun steps s → AllByRecursion HearsBytes steps → BringsBytes event → is_asked s.session.phase event ≡ true → (acts : List Action) × (e : StandingState) × Stands s now event acts e
 some_stands roster begun s steps now event (first, since, begins, is) lasts hears brings asked =
-    let start : HoldsBytes begun.session.phase = subst (λ (x : StandingState). HoldsBytes x.session.phase) (sym is) (begun_holds roster first begins) in
+    let start : HoldsBytes begun.session.phase = subst (λ (x : StandingState). HoldsBytes x.session.phase) (sym is) (begun_holds roster (speaking_v21 first) (begins_v21 roster first begins)) in
     some_event event s now (holds_lasts steps begun s start hears lasts) brings asked
 
 -- ---- some tick

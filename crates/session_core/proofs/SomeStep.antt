@@ -6,6 +6,7 @@ use Rattle.std.proofs.lemmas.Bool.{eqb-true, false≢true}
 use Rattle.table_types.specs.Tables.{Definition}
 use Rattle.table_types.specs.declared.copies.Settled.{Settled}
 use Rattle.table_types.specs.declared.copies.Settled.TheVariants as settles
+use Rattle.table_types.specs.declared.version.Version.{Version}
 use Rattle.peers_msg.specs.Integers.{IsBytes}
 use Rattle.peers_msg.specs.declared.control.Control.TheVariants as controls
 use Rattle.peers_msg.specs.declared.control.ErrorKind.TheVariants as kinds
@@ -30,7 +31,7 @@ use Rattle.session_core.specs.Actions.{reopens, sends_control, status_text}
 use Rattle.session_core.specs.Courses.{Course, Answered, course_fed, finished, is_due, is_same_due, kind_of, none_due, table_to_ask, teaching_anew}
 use Rattle.session_core.specs.Shares.{out_set}
 use Rattle.session_core.specs.Runs.{BringsBytes, HoldsBytes, IsBegun, Runs}
-use Rattle.session_core.specs.Sessions.{SessionState, Accepts, Connects, FinishesResync, Goes, GoesHello, GoesIn, GoesNew, GoesOpen, Greets, HasNothing, IsWelcomed, Settles, StartsPendingResync, Turns, ended, going, in_phase, is_asked, is_asked_hello, is_asked_new, is_asked_open, only_v21}
+use Rattle.session_core.specs.Sessions.{SessionState, Accepts, Connects, FinishesResync, Goes, GoesHello, GoesIn, GoesNew, GoesOpen, Greets, HasNothing, IsWelcomed, Settles, StartsPendingResync, Turns, ended, going, in_phase, is_asked, is_asked_hello, is_asked_new, is_asked_open, answer_from, falling_back, falls_back, opening, speaking}
 use Rattle.session_core.proofs.IntakeGoesOn.{append_good}
 use Rattle.session_core.proofs.ReceivingGoesOn.{received_some}
 use Rattle.session_core.proofs.BytesStay.{fed_good, run_holds}
@@ -38,7 +39,7 @@ use Rattle.session_core.proofs.BytesStay.{fed_good, run_holds}
 -- ---- New
 
 some_new : (s : SessionState) (hello : Hello) (c : Course) (event : Event) → is_asked_new event ≡ true → (acts : List Action) × (e : SessionState) × GoesNew s hello c event acts e
-some_new s hello c events.Opened is = (actions.Send (hello_text hello) ∷ [], in_phase s (phases.Hello greeters.Connects [] c), (refl, refl))
+some_new s hello c events.Opened is = (actions.Send (hello_text hello) ∷ [], in_phase s (phases.Hello (greeters.Connects hello.version) [] c), (refl, refl))
 some_new s hello c events.Turn is = ([], in_phase s (phases.New hello c), (refl, refl))
 some_new s hello c events.End is = (actions.Close ∷ [], ended s, (refl, refl))
 some_new s hello c events.ReadFault is = (actions.Close ∷ [], ended s, (refl, refl))
@@ -52,23 +53,23 @@ some_new s hello c (events.Refused table) is = absurd (false≢true is)
 
 -- ---- Hello
 
-some_welcome : (welcome : Bool) (s : SessionState) (c : Course) (rest : List ℕ) → IsBytes (course_fed c rest).intake.unread → (acts : List Action) × (e : SessionState) × IsWelcomed welcome s c rest acts e
-some_welcome true s c rest good = received_some s (course_fed c rest) (sends_control controls.ResyncRequest ∷ []) good
-some_welcome false s c rest good = (actions.Close ∷ [], ended s, (refl, refl))
+some_welcome : (welcome : Bool) (version : Version) (code : ℕ) (s : SessionState) (c : Course) (rest : List ℕ) → IsBytes (course_fed c rest).intake.unread → (acts : List Action) × (e : SessionState) × IsWelcomed welcome version code s c rest acts e
+some_welcome true version code s c rest good = received_some (speaking version s) (course_fed c rest) (sends_control controls.ResyncRequest ∷ opening version c.shares) good
+some_welcome false version code s c rest good = (actions.Close ∷ [], ended (falling_back (falls_back version code) s), (refl, refl))
 
-some_connect : (status : Status) (s : SessionState) (bytes : List ℕ) (c : Course) → IsBytes bytes → IsBytes c.intake.unread → (acts : List Action) × (e : SessionState) × Connects status s bytes c acts e
-some_connect statuses.More s bytes c good unread = ([], in_phase s (phases.Hello greeters.Connects bytes c), (refl, refl))
-some_connect (statuses.Code code used) s bytes c good unread = some_welcome (code == 200) s c (drop used bytes) (fed_good c used bytes unread good)
-some_connect (statuses.Other used) s bytes c good unread = (actions.Close ∷ [], ended s, (refl, refl))
+some_connect : (version : Version) (status : Status) (s : SessionState) (bytes : List ℕ) (c : Course) → IsBytes bytes → IsBytes c.intake.unread → (acts : List Action) × (e : SessionState) × Connects version status s bytes c acts e
+some_connect version statuses.More s bytes c good unread = ([], in_phase s (phases.Hello (greeters.Connects version) bytes c), (refl, refl))
+some_connect version (statuses.Code code used) s bytes c good unread = some_welcome (code == 200) version code s c (drop used bytes) (fed_good c used bytes unread good)
+some_connect version (statuses.Other used) s bytes c good unread = (actions.Close ∷ [], ended s, (refl, refl))
 
 some_accept : (answer : Answer) (s : SessionState) (greeter : Greeter) (bytes : List ℕ) (c : Course) → IsBytes bytes → IsBytes c.intake.unread → (acts : List Action) × (e : SessionState) × Accepts answer s greeter bytes c acts e
 some_accept answers.More s greeter bytes c good unread = ([], in_phase s (phases.Hello greeter bytes c), (refl, refl))
-some_accept (answers.Accepted name version used) s greeter bytes c good unread = received_some s (course_fed c (drop used bytes)) (actions.Send (status_text 200) ∷ []) (fed_good c used bytes unread good)
+some_accept (answers.Accepted name version used) s greeter bytes c good unread = received_some (speaking version s) (course_fed c (drop used bytes)) (actions.Send (status_text 200) ∷ opening version c.shares) (fed_good c used bytes unread good)
 some_accept (answers.Refused code used) s greeter bytes c good unread = (actions.Send (status_text code) ∷ (actions.Close ∷ []), ended s, (refl, refl))
 
 some_greeting : (greeter : Greeter) (s : SessionState) (bytes : List ℕ) (c : Course) → IsBytes bytes → IsBytes c.intake.unread → (acts : List Action) × (e : SessionState) × Greets s greeter bytes c acts e
-some_greeting greeters.Connects s bytes c good unread = some_connect (status_of bytes) s bytes c good unread
-some_greeting (greeters.Accepts own peers) s bytes c good unread = some_accept (only_v21 (answer_of own peers bytes)) s (greeters.Accepts own peers) bytes c good unread
+some_greeting (greeters.Connects version) s bytes c good unread = some_connect version (status_of bytes) s bytes c good unread
+some_greeting (greeters.Accepts own peers oldest) s bytes c good unread = some_accept (answer_from oldest (answer_of own peers bytes)) s (greeters.Accepts own peers oldest) bytes c good unread
 
 some_hello : (s : SessionState) (greeter : Greeter) (bytes : List ℕ) (c : Course) (event : Event) → IsBytes bytes × IsBytes c.intake.unread → BringsBytes event → is_asked_hello event ≡ true
     → (acts : List Action) × (e : SessionState) × GoesHello s greeter bytes c event acts e
@@ -151,7 +152,7 @@ some_open s c (events.Nothing table) unread brings is =
     (nothing.0, nothing.1, (now.0, now.1, nothing.2))
 some_open s c (events.Written known) unread brings is =
     let now = answered c dues.Teach is in
-    ([], record { phase = phases.Open now.0; known = known; fault = s.fault; confirmed = s.confirmed }, (now.0, now.1, refl, refl))
+    ([], record s { phase = phases.Open now.0; known = known }, (now.0, now.1, refl, refl))
 some_open s c (events.Settled table settled) unread brings is =
     let now = answered c (dues.Ack table) is in
     let settles = some_settled settled s now.0 table in

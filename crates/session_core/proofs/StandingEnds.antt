@@ -4,10 +4,11 @@ use Rattle.std.specs.Prelude.{drop, filter}
 use Rattle.std.specs.List.{list_any, AllByRecursion}
 use Rattle.std.proofs.lemmas.Bool.{false≢true}
 use Rattle.std.proofs.lemmas.List.{append-nil}
-use Rattle.std.proofs.lemmas.List.Folds.{list_all-append, list_any-append}
+use Rattle.std.proofs.lemmas.List.Folds.{list_all-append}
 use Rattle.table_types.specs.Tables.{Definition}
 use Rattle.table_types.specs.declared.copies.Settled.{Settled}
 use Rattle.table_types.specs.declared.copies.Settled.TheVariants as settles
+use Rattle.table_types.specs.declared.version.Version.{Version}
 use Rattle.peers_msg.specs.declared.control.Control.TheVariants as controls
 use Rattle.peers_hello.specs.declared.hello.Hello.{Hello}
 use Rattle.peers_hello.specs.declared.hello.Answer.{Answer}
@@ -34,14 +35,15 @@ use Rattle.session_core.specs.Phases.{Phase}
 use Rattle.session_core.specs.Phases as phases
 use Rattle.session_core.specs.Shares.{any_out, all_quiet, is_out, quiet_set, unquieted}
 use Rattle.session_core.specs.Actions.{sends_control, status_text, reopens}
-use Rattle.session_core.specs.Courses.{Course, course_fed, teaching_anew, acknowledged, ack_received, ReceivesAll, acks_sent, acks_given, table_to_ask, none_due}
-use Rattle.session_core.specs.Sessions.{SessionState, is_asked, Concludes, ReceivesBytes, IsWelcomed, Connects, Accepts, Greets, GoesIn, GoesNew, GoesHello, GoesOpen, Turns, HasNothing, FinishesResync, StartsPendingResync, Settles, only_v21}
-use Rattle.session_core.specs.Runs.{is_end, ends_resync, is_copy_of, copies, is_reopen_of, reopened, IsLeft, HasNothingLeft, HasNothingOut, IsBegun}
+use Rattle.session_core.specs.Courses.{Course, course_fed, teaching_anew, acknowledged, ack_received, ReceivesAll, acks_given, table_to_ask, none_due}
+use Rattle.session_core.specs.Sessions.{SessionState, is_asked, Concludes, ReceivesBytes, IsWelcomed, Connects, Accepts, Greets, GoesIn, GoesNew, GoesHello, GoesOpen, Turns, HasNothing, FinishesResync, StartsPendingResync, Settles, answer_from, opening, speaking}
+use Rattle.session_core.specs.Runs.{is_end, ends_resync, copies, reopened, IsLeft, HasNothingLeft, HasNothingOut, IsBegun}
 use Rattle.session_core.specs.Paces.{inferred, is_ahead}
-use Rattle.session_core.specs.Standing.{StandingState, without_reopens, changed, teaches, shared, put_off, finished_if, finishing, begun_resync, Does, task_at, TakesTurn, Writes, answer_of_refusal, Stands, without_tables, leaving, heartbeats, TicksIn, Ticks, caught_up_in}
+use Rattle.session_core.specs.Standing.{StandingState, without_reopens, changed, teaches, shared, put_off, finished_if, begun_resync, Does, task_at, TakesTurn, Writes, answer_of_refusal, Stands, without_tables, leaving, heartbeats, TicksIn, caught_up_in, speaking_v21}
 use Rattle.session_core.specs.StandingRuns.{Happening, At, Tick, CatchUp, Happens, Lasts, BeginsToStay, acts_of, handed, leaves, was_left}
-use Rattle.session_core.proofs.ShareLemmas.{shares_in, ids_of, never, unquieted_in, none_out, each_quiet, shares_begin}
-use Rattle.session_core.proofs.EndLemmas.{is_plain, plain_append, plain_all, plain_acks, plain_status, plain_reopens}
+use Rattle.session_core.proofs.BegunToStay.{begins_v21}
+use Rattle.session_core.proofs.ShareLemmas.{shares_in, ids_of, never, none_out, each_quiet, shares_begin}
+use Rattle.session_core.proofs.EndLemmas.{is_plain, plain_append, plain_all, plain_acks, plain_ready, plain_status, plain_reopens}
 use Rattle.session_core.proofs.RunLemmas.{AreFlags, no_copies, IsDueSound, IsSound, IsCalm, IsFresh, IsKeptIn, due_sound, due_rest, calm_sound, fresh_calm, flags_more, calm_more, anew_flags, calm_all_received}
 use Rattle.session_core.proofs.StepLemmas.{with_step, goes_kept, quieted}
 
@@ -126,28 +128,28 @@ attended : (ids : List ℕ) (steps : List (Event × List Action)) (s : SessionSt
 attended ids steps s c event first given acts e calm plain is (result, gs, mid, receives, concludes) =
     (rest_concluded ids steps s c mid result event first gs given acts e calm plain is receives concludes, plain_concluded s c mid result first gs given e (plain 0) receives concludes)
 
-attended_welcomed : (ids : List ℕ) (steps : List (Event × List Action)) (b : Bool) (s : SessionState) (c : Course) (rest : List ℕ) (event : Event) (given acts : List Action) (e : SessionState) → IsFresh ids c → acts ≡ without_reopens given → IsWelcomed b s c rest given e → IsAttended ids steps c.teaching c.shares event given acts e
-attended_welcomed ids steps true s c rest event given acts e fresh is receives = attended ids steps s (course_fed c rest) event (sends_control controls.ResyncRequest ∷ []) given acts e (fresh_calm ids steps c fresh) (λ id. (refl, refl)) is receives
-attended_welcomed ids steps false s c rest event given acts e fresh is (all, ends) = (rest_at ids (with_step steps event acts) c.teaching c.shares e _ ends tt, ap ends_resync all)
+attended_welcomed : (ids : List ℕ) (steps : List (Event × List Action)) (b : Bool) (version : Version) (code : ℕ) (s : SessionState) (c : Course) (rest : List ℕ) (event : Event) (given acts : List Action) (e : SessionState) → IsFresh ids c → acts ≡ without_reopens given → IsWelcomed b version code s c rest given e → IsAttended ids steps c.teaching c.shares event given acts e
+attended_welcomed ids steps true version code s c rest event given acts e fresh is receives = attended ids steps (speaking version s) (course_fed c rest) event (sends_control controls.ResyncRequest ∷ opening version c.shares) given acts e (fresh_calm ids steps c fresh) (λ id. plain_ready id (sends_control controls.ResyncRequest) version c.shares (refl, refl)) is receives
+attended_welcomed ids steps false version code s c rest event given acts e fresh is (all, ends) = (rest_at ids (with_step steps event acts) c.teaching c.shares e _ ends tt, ap ends_resync all)
 
 -- a course that begins is fresh also when put off
 fresh_off : (ids : List ℕ) (c : Course) → IsFresh ids c → IsFresh ids (put_off c.teaching c.shares c)
 fresh_off ids c fresh = fresh
 
-attended_connects : (ids : List ℕ) (steps : List (Event × List Action)) (status : Status) (s : SessionState) (bytes : List ℕ) (c : Course) (event : Event) (given acts : List Action) (e : SessionState) → IsFresh ids c → acts ≡ without_reopens given → Connects status s bytes c given e → IsAttended ids steps c.teaching c.shares event given acts e
-attended_connects ids steps statuses.More s bytes c event given acts e fresh is (all, ends) = (rest_at ids (with_step steps event acts) c.teaching c.shares e _ ends (fresh_off ids c fresh), ap ends_resync all)
-attended_connects ids steps (statuses.Code code used) s bytes c event given acts e fresh is goes = attended_welcomed ids steps _ s c _ event given acts e fresh is goes
-attended_connects ids steps (statuses.Other used) s bytes c event given acts e fresh is (all, ends) = (rest_at ids (with_step steps event acts) c.teaching c.shares e _ ends tt, ap ends_resync all)
+attended_connects : (ids : List ℕ) (steps : List (Event × List Action)) (version : Version) (status : Status) (s : SessionState) (bytes : List ℕ) (c : Course) (event : Event) (given acts : List Action) (e : SessionState) → IsFresh ids c → acts ≡ without_reopens given → Connects version status s bytes c given e → IsAttended ids steps c.teaching c.shares event given acts e
+attended_connects ids steps version statuses.More s bytes c event given acts e fresh is (all, ends) = (rest_at ids (with_step steps event acts) c.teaching c.shares e _ ends (fresh_off ids c fresh), ap ends_resync all)
+attended_connects ids steps version (statuses.Code code used) s bytes c event given acts e fresh is goes = attended_welcomed ids steps _ version code s c _ event given acts e fresh is goes
+attended_connects ids steps version (statuses.Other used) s bytes c event given acts e fresh is (all, ends) = (rest_at ids (with_step steps event acts) c.teaching c.shares e _ ends tt, ap ends_resync all)
 
 attended_accepts : (ids : List ℕ) (steps : List (Event × List Action)) (answer : Answer) (s : SessionState) (greeter : Greeter) (bytes : List ℕ) (c : Course) (event : Event) (given acts : List Action) (e : SessionState) → IsFresh ids c → acts ≡ without_reopens given → Accepts answer s greeter bytes c given e → IsAttended ids steps c.teaching c.shares event given acts e
 attended_accepts ids steps answers.More s greeter bytes c event given acts e fresh is (all, ends) = (rest_at ids (with_step steps event acts) c.teaching c.shares e _ ends (fresh_off ids c fresh), ap ends_resync all)
-attended_accepts ids steps (answers.Accepted name version used) s greeter bytes c event given acts e fresh is goes = attended ids steps s (course_fed c (drop used bytes)) event (actions.Send (status_text 200) ∷ []) given acts e (fresh_calm ids steps c fresh) (λ id. plain_status id 200) is goes
+attended_accepts ids steps (answers.Accepted name version used) s greeter bytes c event given acts e fresh is goes = attended ids steps (speaking version s) (course_fed c (drop used bytes)) event (actions.Send (status_text 200) ∷ opening version c.shares) given acts e (fresh_calm ids steps c fresh) (λ id. plain_ready id (actions.Send (status_text 200)) version c.shares (plain_status id 200)) is goes
 attended_accepts ids steps (answers.Refused code used) s greeter bytes c event given acts e fresh is (all, ends) =
     (rest_at ids (with_step steps event acts) c.teaching c.shares e _ ends tt, ap ends_resync all ∙ (plain_append 0 (actions.Send (status_text code) ∷ []) (actions.Close ∷ []) (plain_status 0 code) (refl, refl)).0)
 
 attended_greets : (ids : List ℕ) (steps : List (Event × List Action)) (s : SessionState) (greeter : Greeter) (bytes : List ℕ) (c : Course) (event : Event) (given acts : List Action) (e : SessionState) → IsFresh ids c → acts ≡ without_reopens given → Greets s greeter bytes c given e → IsAttended ids steps c.teaching c.shares event given acts e
-attended_greets ids steps s greeters.Connects bytes c event given acts e fresh is goes = attended_connects ids steps (status_of bytes) s bytes c event given acts e fresh is goes
-attended_greets ids steps s (greeters.Accepts own peers) bytes c event given acts e fresh is goes = attended_accepts ids steps (only_v21 (answer_of own peers bytes)) s (greeters.Accepts own peers) bytes c event given acts e fresh is goes
+attended_greets ids steps s (greeters.Connects version) bytes c event given acts e fresh is goes = attended_connects ids steps version (status_of bytes) s bytes c event given acts e fresh is goes
+attended_greets ids steps s (greeters.Accepts own peers oldest) bytes c event given acts e fresh is goes = attended_accepts ids steps (answer_from oldest (answer_of own peers bytes)) s (greeters.Accepts own peers oldest) bytes c event given acts e fresh is goes
 
 pub attended_in : (ids : List ℕ) (steps : List (Event × List Action)) (phase : Phase) (s : SessionState) (bytes : List ℕ) (given acts : List Action) (e : SessionState) → IsKeptIn ids steps phase → acts ≡ without_reopens given → GoesIn phase s (events.Bytes bytes) given e → IsAttended ids steps (teaches phase) (shared phase) (events.Bytes bytes) given acts e
 attended_in ids steps (phases.New hello c) s bytes given acts e kept is goes = absurd goes
@@ -596,7 +598,7 @@ all_or P (CatchUp ∷ steps) ds all = catch_or P steps ds (all_or P steps ds all
 
 pub begun_kept : (roster : List Definition) (s : SessionState) → IsBegun roster s → IsKeptIn (ids_of roster) [] s.phase
 begun_kept roster s (inl (hello, up_to_date, is)) = subst (λ (x : SessionState). IsKeptIn (ids_of roster) [] x.phase) (sym is) (shares_begin roster, refl, refl)
-begun_kept roster s (inr (own, peers, up_to_date, is)) = subst (λ (x : SessionState). IsKeptIn (ids_of roster) [] x.phase) (sym is) (shares_begin roster, refl, refl)
+begun_kept roster s (inr (oldest, own, peers, up_to_date, is)) = subst (λ (x : SessionState). IsKeptIn (ids_of roster) [] x.phase) (sym is) (shares_begin roster, refl, refl)
 
 end_happens : (one : Happening) (ds : List Definition) (steps : List Happening) (s e : StandingState) → IsKeptIn (ids_of (rest_after ds steps)) (handed steps) s.session.phase → Happens s one e → ends_resync (acts_of one) ≡ true → IsTaught (rest_after ds (steps ++ (one ∷ []))) (handed (steps ++ (one ∷ []))) e.session
 end_happens (At now event acts) ds steps s e kept stands comes =
@@ -611,6 +613,6 @@ end_happens CatchUp ds steps s e kept caught comes = absurd (false≢true comes)
 
 pub ends_taught_or_left : (roster : List Definition) (begun s e : StandingState) (steps : List Happening) (one : Happening) → BeginsToStay roster begun → Lasts begun steps s → Happens s one e → ends_resync (acts_of one) ≡ true → HasNothingOut e.session × AllByRecursion (λ d. (was_left d.id (steps ++ (one ∷ [])) ≡ true) ⊎ HasNothingLeft (handed (steps ++ (one ∷ []))) d.id) roster
 ends_taught_or_left roster begun s e steps one (first, now, begins, is) lasts happens comes =
-    let start : IsKeptIn (ids_of roster) [] begun.session.phase = subst (λ (x : StandingState). IsKeptIn (ids_of roster) [] x.session.phase) (sym is) (begun_kept roster first begins) in
+    let start : IsKeptIn (ids_of roster) [] begun.session.phase = subst (λ (x : StandingState). IsKeptIn (ids_of roster) [] x.session.phase) (sym is) (begun_kept roster (speaking_v21 first) (begins_v21 roster first begins)) in
     let taught = end_happens one roster steps s e (lasts_kept steps roster [] begun s start lasts) happens comes in
     (taught.0, all_or (HasNothingLeft (handed (steps ++ (one ∷ [])))) (steps ++ (one ∷ [])) roster taught.1)

@@ -1,5 +1,5 @@
 -- A session that stays sends resync finished only if no tick left a table.
-use Rattle.std.proofs.Common.{◌≡◌, ℕ, Bool, true, false, not, ◌&&◌, ◌||◌, ◌==◌, List, [], ◌∷◌, ◌++◌, Some, None, Option, Ok, Err, Result, refl, sym, ap, ◌∙◌, subst, inl, inr}
+use Rattle.std.proofs.Common.{◌≡◌, ℕ, Bool, true, false, not, ◌&&◌, ◌||◌, List, [], ◌∷◌, ◌++◌, Some, None, Option, Ok, Err, Result, refl, sym, ap, ◌∙◌, subst}
 use Rattle.std.specs.Prelude.{drop}
 use Rattle.std.specs.List.{list_any}
 use Rattle.std.proofs.lemmas.Bool.{false≢true}
@@ -7,6 +7,7 @@ use Rattle.std.proofs.lemmas.List.Folds.{list_any-append}
 use Rattle.table_types.specs.Tables.{Definition}
 use Rattle.table_types.specs.declared.copies.Settled.{Settled}
 use Rattle.table_types.specs.declared.copies.Settled.TheVariants as settles
+use Rattle.table_types.specs.declared.version.Version.{Version}
 use Rattle.peers_msg.specs.declared.control.Control.{Control}
 use Rattle.peers_msg.specs.declared.control.Control.TheVariants as controls
 use Rattle.peers_hello.specs.declared.hello.Hello.{Hello}
@@ -37,15 +38,16 @@ use Rattle.session_core.specs.Shares.{any_out, all_quiet, is_out, out_set, quiet
 use Rattle.peers_hello.specs.Lines.{is_same}
 use Rattle.session_core.specs.Actions.{control_text, sends_control, status_text, reopens}
 use Rattle.session_core.specs.Courses.{Course, course_fed, teaching_anew, requested, acknowledged, ack_received, said, message_received, AreReceived, ReceivesAll, table_to_ask, finished}
-use Rattle.session_core.specs.Sessions.{SessionState, going, Concludes, ReceivesBytes, IsWelcomed, Connects, Accepts, Greets, GoesIn, GoesNew, GoesHello, GoesOpen, Turns, HasNothing, FinishesResync, StartsPendingResync, Settles, only_v21}
-use Rattle.session_core.specs.Runs.{is_end, ends_resync, IsBegun}
+use Rattle.session_core.specs.Sessions.{SessionState, going, Concludes, ReceivesBytes, IsWelcomed, Connects, Accepts, Greets, GoesIn, GoesNew, GoesHello, GoesOpen, Turns, HasNothing, FinishesResync, StartsPendingResync, Settles, answer_from, opening, speaking}
+use Rattle.session_core.specs.Runs.{is_end, ends_resync}
 use Rattle.session_core.specs.Paces.{Pace, inferred, is_ahead}
-use Rattle.session_core.specs.Standing.{StandingState, without_reopens, changed, teaches, shared, put_off, finished_if, finishing, begun_resync, Does, task_at, TakesTurn, Writes, answer_of_refusal, Stands, without_tables, leaving, any_left, heartbeats, TicksIn, caught_up_in, caught_up}
+use Rattle.session_core.specs.Standing.{StandingState, changed, teaches, shared, put_off, finished_if, finishing, begun_resync, Does, task_at, TakesTurn, Writes, Stands, without_tables, leaving, any_left, heartbeats, TicksIn, caught_up_in, caught_up, speaking_v21}
 use Rattle.session_core.specs.StandingRuns.{Happening, At, Tick, CatchUp, Happens, Lasts, BeginsToStay, acts_of, handed, leaves_any, is_finish}
+use Rattle.session_core.proofs.BegunToStay.{begins_v21}
 use Rattle.session_core.proofs.ShareLemmas.{ids_of}
-use Rattle.session_core.proofs.EndLemmas.{plain_append, plain_reopens}
+use Rattle.session_core.proofs.EndLemmas.{plain_reopens}
 use Rattle.session_core.proofs.RunLemmas.{IsKeptIn}
-use Rattle.session_core.proofs.StandingEnds.{ends_without, attended_in, end_ack, IsEndless, endless_in, endless_refusal, rest_after, lasts_kept, begun_kept}
+use Rattle.session_core.proofs.StandingEnds.{ends_without, attended_in, end_ack, endless_in, endless_refusal, rest_after, lasts_kept, begun_kept}
 
 -- ---- whether this node is up to date
 
@@ -113,23 +115,23 @@ up_new b s hello c (events.Written known) acts e up goes = absurd goes
 up_new b s hello c (events.Settled table settled) acts e up goes = absurd goes
 up_new b s hello c (events.Refused table) acts e up goes = absurd goes
 
-up_welcomed : (b q : Bool) (s : SessionState) (c : Course) (rest : List ℕ) (acts : List Action) (e : SessionState) → c.up_to_date ≡ b → IsWelcomed q s c rest acts e → IsUp b e.phase
-up_welcomed b true s c rest acts e up receives = up_bytes b s (course_fed c rest) (sends_control controls.ResyncRequest ∷ []) acts e up receives
-up_welcomed b false s c rest acts e up (is, ends) = up_at b e _ ends tt
+up_welcomed : (b q : Bool) (version : Version) (code : ℕ) (s : SessionState) (c : Course) (rest : List ℕ) (acts : List Action) (e : SessionState) → c.up_to_date ≡ b → IsWelcomed q version code s c rest acts e → IsUp b e.phase
+up_welcomed b true version code s c rest acts e up receives = up_bytes b (speaking version s) (course_fed c rest) (sends_control controls.ResyncRequest ∷ opening version c.shares) acts e up receives
+up_welcomed b false version code s c rest acts e up (is, ends) = up_at b e _ ends tt
 
-up_connects : (b : Bool) (status : Status) (s : SessionState) (bytes : List ℕ) (c : Course) (acts : List Action) (e : SessionState) → c.up_to_date ≡ b → Connects status s bytes c acts e → IsUp b e.phase
-up_connects b statuses.More s bytes c acts e up (is, ends) = up_at b e _ ends up
-up_connects b (statuses.Code code used) s bytes c acts e up goes = up_welcomed b _ s c _ acts e up goes
-up_connects b (statuses.Other used) s bytes c acts e up (is, ends) = up_at b e _ ends tt
+up_connects : (b : Bool) (version : Version) (status : Status) (s : SessionState) (bytes : List ℕ) (c : Course) (acts : List Action) (e : SessionState) → c.up_to_date ≡ b → Connects version status s bytes c acts e → IsUp b e.phase
+up_connects b version statuses.More s bytes c acts e up (is, ends) = up_at b e _ ends up
+up_connects b version (statuses.Code code used) s bytes c acts e up goes = up_welcomed b _ version code s c _ acts e up goes
+up_connects b version (statuses.Other used) s bytes c acts e up (is, ends) = up_at b e _ ends tt
 
 up_accepts : (b : Bool) (answer : Answer) (s : SessionState) (greeter : Greeter) (bytes : List ℕ) (c : Course) (acts : List Action) (e : SessionState) → c.up_to_date ≡ b → Accepts answer s greeter bytes c acts e → IsUp b e.phase
 up_accepts b answers.More s greeter bytes c acts e up (is, ends) = up_at b e _ ends up
-up_accepts b (answers.Accepted name version used) s greeter bytes c acts e up goes = up_bytes b s (course_fed c (drop used bytes)) (actions.Send (status_text 200) ∷ []) acts e up goes
+up_accepts b (answers.Accepted name version used) s greeter bytes c acts e up goes = up_bytes b (speaking version s) (course_fed c (drop used bytes)) (actions.Send (status_text 200) ∷ opening version c.shares) acts e up goes
 up_accepts b (answers.Refused code used) s greeter bytes c acts e up (is, ends) = up_at b e _ ends tt
 
 up_greets : (b : Bool) (s : SessionState) (greeter : Greeter) (bytes : List ℕ) (c : Course) (acts : List Action) (e : SessionState) → c.up_to_date ≡ b → Greets s greeter bytes c acts e → IsUp b e.phase
-up_greets b s greeters.Connects bytes c acts e up goes = up_connects b (status_of bytes) s bytes c acts e up goes
-up_greets b s (greeters.Accepts own peers) bytes c acts e up goes = up_accepts b (only_v21 (answer_of own peers bytes)) s (greeters.Accepts own peers) bytes c acts e up goes
+up_greets b s (greeters.Connects version) bytes c acts e up goes = up_connects b version (status_of bytes) s bytes c acts e up goes
+up_greets b s (greeters.Accepts own peers oldest) bytes c acts e up goes = up_accepts b (answer_from oldest (answer_of own peers bytes)) s (greeters.Accepts own peers oldest) bytes c acts e up goes
 
 up_hello : (b : Bool) (s : SessionState) (greeter : Greeter) (bytes : List ℕ) (c : Course) (event : Event) (acts : List Action) (e : SessionState) → c.up_to_date ≡ b → GoesHello s greeter bytes c event acts e → IsUp b e.phase
 up_hello b s greeter bytes c (events.Bytes piece) acts e up goes = up_greets b s greeter (bytes ++ piece) c acts e up goes
@@ -464,7 +466,7 @@ none_left_by true (At now event acts) ds steps s e kept marked stands finishes =
 
 pub finished_leaves_none : (roster : List Definition) (begun s e : StandingState) (steps : List Happening) (one : Happening) → BeginsToStay roster begun → Lasts begun steps s → Happens s one e → list_any is_finish (acts_of one) ≡ true → list_any leaves_any (steps ++ (one ∷ [])) ≡ false
 finished_leaves_none roster begun s e steps one (first, now, begins, is) lasts happens finishes =
-    let start : IsKeptIn (ids_of roster) [] begun.session.phase = subst (λ (x : StandingState). IsKeptIn (ids_of roster) [] x.session.phase) (sym is) (begun_kept roster first begins) in
+    let start : IsKeptIn (ids_of roster) [] begun.session.phase = subst (λ (x : StandingState). IsKeptIn (ids_of roster) [] x.session.phase) (sym is) (begun_kept roster (speaking_v21 first) (begins_v21 roster first begins)) in
     let marked : IsMarked (false || list_any leaves_any steps) s = marked_lasts steps false begun s (λ so. absurd (false≢true so)) lasts in
     list_any-append leaves_any steps (one ∷ [])
     ∙ none_left_by (list_any leaves_any steps) one (rest_after roster steps) (handed steps) s e (lasts_kept steps roster [] begun s start lasts) marked happens finishes

@@ -237,14 +237,14 @@ rested_open c m s t e x y ss b acks given acts opens stands is is_acts puts =
     ∙ ap (λ (p : Phase). put_off_in p t) opens
     ∙ ap (λ (u : SessionState). put_off_in (phases.Open (course_of c x (resting ss) [])) u) stands
     ∙ ap (λ (d : Course). put_off_in (phases.Open (course_of c x (resting ss) [])) (stepped s (phases.Open (acks_sent d)) given)) is
-    ∙ ap (λ (said : Bool). record { phase = phase; known = s.known; fault = s.fault; confirmed = s.confirmed || said }) (sym (confirms_still given) ∙ ap confirms (sym is_acts))
+    ∙ ap (λ (said : Bool). record s { phase = phase; confirmed = s.confirmed || said }) (sym (confirms_still given) ∙ ap confirms (sym is_acts))
 
 -- the session after bytes that end it
 rested_over : (s t e : SessionState) (fault : Option Fault) (given acts : List Action) → t ≡ over_with s fault given → acts ≡ without_reopens given → e ≡ put_off_in s.phase t → e ≡ over_with s fault acts
 rested_over s t e fault given acts stands is_acts puts =
     puts
     ∙ ap (λ (u : SessionState). put_off_in s.phase u) stands
-    ∙ ap (λ (said : Bool). record { phase = phases.Ended; known = s.known; fault = fault; confirmed = s.confirmed || said }) (sym (confirms_still given) ∙ ap confirms (sym is_acts))
+    ∙ ap (λ (said : Bool). record s { phase = phases.Ended; fault = fault; confirmed = s.confirmed || said }) (sym (confirms_still given) ∙ ap confirms (sym is_acts))
 
 listened_open : (settles : ℕ → ℕ → Bool) (c m : Course) (s mid e : StandingState) (t : SessionState) (x : Taking) (ss : List Share) (k : Sharing) (over : List ℕ) (left : List (ℕ × ℕ)) (bytes : List ℕ) (g given acts : List Action) (ts : List Taken) (steps : List Happening)
     → IsBytes ((x.unread ++ bytes) ++ heard_in (handed steps)) → x.roster ≡ c.intake.roster → s.session.phase ≡ phases.Open (course_of c x (resting ss) []) → Fits settles over [] (resting ss) k
@@ -261,9 +261,9 @@ listened_open settles c m s mid e t x ss k over left bytes g given acts ts steps
     let moved = messages_move settles roster ts c (fed x bytes) [] [] [] (resting ss) (resting ss) g m same (fits_first settles (resting ss)) gets in
     let rests = messages_rest settles roster ts from over [] (resting ss) k g m same (λ table. refl) fits gets in
     let passed : passed_on acts ≡ passed_on g =
-    ap passed_on is_acts ∙ passed_still given ∙ piece_passes [] g (acks_given m) given (refl, refl, refl) is_given ∙ ap (λ (p : List (ℕ × ℕ)). passed_on g ++ p) (passed_acks m) ∙ append-nil (passed_on g) in
+    ap passed_on is_acts ∙ passed_still given ∙ piece_passes [] g (acks_given m) given (refl, refl) is_given ∙ ap (λ (p : List (ℕ × ℕ)). passed_on g ++ p) (passed_acks m) ∙ append-nil (passed_on g) in
     let plainly : plain acts ≡ plain g =
-    ap plain is_acts ∙ plain_still given ∙ piece_plain [] g (acks_given m) given (refl, refl, refl) is_given ∙ ap (λ (xs : List Action). plain g ++ xs) (quiet_acks m) ∙ append-nil (plain g) in
+    ap plain is_acts ∙ plain_still given ∙ piece_plain [] g (acks_given m) given (refl, refl) is_given ∙ ap (λ (xs : List Action). plain g ++ xs) (quiet_acks m) ∙ append-nil (plain g) in
     let is : m ≡ course_of c y moved.1.0 (dues_of (passed_on acts)) = moved.1.1 ∙ ap (λ (p : List (ℕ × ℕ)). course_of c y moved.1.0 (dues_of p)) (sym passed) in
     let after : mid.session ≡ stepped s.session (phases.Open (course_of c (with_due y []) (resting ss) (dues_of (passed_on acts)))) acts =
     rested_open c m s.session t mid.session x y ss moved.1.0 (passed_on acts) given acts opens stands is is_acts puts in
@@ -297,13 +297,13 @@ listened settles c s mid e now x ss k over acks rest left bytes acts steps good 
     by (Err halts.Failed) g ts n opens_so fits_so hears_so gets ends (is, stands) =
         let rests = messages_rest settles c.intake.roster ts (course_of c (fed x bytes) (resting ss) []) over [] (resting ss) k g n same (λ table. refl) fits_so gets in
         let takes = taken_received ts (course_of c (fed x bytes) (resting ss) []) n g gets in
-        let says = ap (without_late settles over) (ap plain is_acts ∙ plain_still given) ∙ piece_told settles over [] g (actions.Close ∷ []) given (told_by same_sharing settles c.intake.roster k ts) (refl, refl, refl) is refl rests.1 in
+        let says = ap (without_late settles over) (ap plain is_acts ∙ plain_still given) ∙ piece_told settles over [] g (actions.Close ∷ []) given (told_by same_sharing settles c.intake.roster k ts) (refl, refl) is refl rests.1 in
         let after : mid.session ≡ over_with s.session s.session.fault acts = rested_over s.session t mid.session s.session.fault given acts stands is_acts puts in
         over_comes same_sharing settles c false x n.intake k over s.session mid.session e.session bytes (handed steps) ts g acts left (Err halts.Failed) takes (over_ends n (Err halts.Failed) ends) says after (none_follow_in settles mid e (passed_on acts) left steps (ap (λ (u : SessionState). u.phase) after) hears_so)
     by (Err (halts.Fault fault)) g ts n opens_so fits_so hears_so gets ends (is, stands) =
         let rests = messages_rest settles c.intake.roster ts (course_of c (fed x bytes) (resting ss) []) over [] (resting ss) k g n same (λ table. refl) fits_so gets in
         let takes = taken_received ts (course_of c (fed x bytes) (resting ss) []) n g gets in
-        let says = ap (without_late settles over) (ap plain is_acts ∙ plain_still given) ∙ piece_told settles over [] g (actions.Part (kind_of_fault fault) ∷ []) given (told_by same_sharing settles c.intake.roster k ts) (refl, refl, refl) is refl rests.1 in
+        let says = ap (without_late settles over) (ap plain is_acts ∙ plain_still given) ∙ piece_told settles over [] g (actions.Part (kind_of_fault fault) ∷ []) given (told_by same_sharing settles c.intake.roster k ts) (refl, refl) is refl rests.1 in
         let after : mid.session ≡ over_with s.session (Some fault) acts = rested_over s.session t mid.session (Some fault) given acts stands is_acts puts in
         over_comes same_sharing settles c false x n.intake k over s.session mid.session e.session bytes (handed steps) ts g acts left (Err (halts.Fault fault)) takes (over_ends n (Err (halts.Fault fault)) ends) says after (none_follow_in settles mid e (passed_on acts) left steps (ap (λ (u : SessionState). u.phase) after) hears_so)
     by (Err halts.Memory) g ts n opens_so fits_so hears_so gets ends concludes = absurd concludes

@@ -13,7 +13,7 @@ use Rattle.session_core.specs.Phases as phases
 use Rattle.session_core.specs.Courses.{Course}
 use Rattle.session_core.specs.Sessions.{SessionState, in_phase}
 use Rattle.session_core.specs.Paces.{Pace, renewed}
-use Rattle.session_core.specs.Standing.{StandingState, sends, is_send, HandsOn, Listens, Does, task_at, TakesTurn, Writes, answer_of_refusal, Stands, TicksIn, Ticks}
+use Rattle.session_core.specs.Standing.{StandingState, sends, is_send, HandsOn, Does, task_at, TakesTurn, Writes, Stands, TicksIn, Ticks}
 use Rattle.session_core.specs.StandingRuns.{Happening, At, Tick, CatchUp, Lasts, is_close, IsIdle, without_ticks, resent, IsSameButSent, beats}
 
 abbrev state_with : SessionState → Pace → StandingState

@@ -22,8 +22,9 @@ use Rattle.session_core.specs.Courses.{Course, course_fed, teaching_anew, acknow
 use Rattle.session_core.specs.Sessions.{SessionState, going, Concludes, ReceivesBytes, GoesIn, GoesNew, GoesHello, GoesOpen, Turns, HasNothing, FinishesResync, StartsPendingResync, Settles}
 use Rattle.session_core.specs.Runs.{IsBegun}
 use Rattle.session_core.specs.Paces.{inferred, is_ahead}
-use Rattle.session_core.specs.Standing.{StandingState, changed, teaches, shared, put_off, finished_if, finishing, Does, task_at, TakesTurn, Writes, answer_of_refusal, Stands, without_tables, leaving, TicksIn, caught_up_in}
+use Rattle.session_core.specs.Standing.{StandingState, changed, teaches, shared, put_off, finished_if, finishing, Does, task_at, TakesTurn, Writes, answer_of_refusal, Stands, without_tables, leaving, TicksIn, caught_up_in, speaking_v21}
 use Rattle.session_core.specs.StandingRuns.{Happening, At, Tick, CatchUp, Happens, Lasts, BeginsToStay, HasWork}
+use Rattle.session_core.proofs.BegunToStay.{begins_v21}
 
 abbrev IsOrderlyCourse : Course → Type 0
 IsOrderlyCourse c = (c.waits ≡ false) × (c.teaching ≡ true → all_quiet c.shares ≡ false)
@@ -250,7 +251,7 @@ orderly_lasts (one ∷ steps) s e orderly (mid, happens, lasts) = orderly_lasts 
 
 begun_orderly : (roster : List Definition) (s : SessionState) → IsBegun roster s → IsOrderly s.phase
 begun_orderly roster s (inl (hello, up_to_date, is)) = at_phase s _ is (refl, refl)
-begun_orderly roster s (inr (own, peers, up_to_date, is)) = at_phase s _ is (refl, refl)
+begun_orderly roster s (inr (oldest, own, peers, up_to_date, is)) = at_phase s _ is (refl, refl)
 
 work_in : (phase : Phase) → IsOrderly phase → HasWork phase
 work_in (phases.New hello c) orderly = tt
@@ -260,9 +261,9 @@ work_in phases.Ended orderly = tt
 
 pub has_work : (roster : List Definition) (begun s : StandingState) (steps : List Happening) → BeginsToStay roster begun → Lasts begun steps s → HasWork s.session.phase
 has_work roster begun s steps (first, now, begins, is) lasts =
-    work_in s.session.phase (orderly_lasts steps begun s (subst (λ (x : StandingState). IsOrderly x.session.phase) (sym is) (begun_orderly roster first begins)) lasts)
+    work_in s.session.phase (orderly_lasts steps begun s (subst (λ (x : StandingState). IsOrderly x.session.phase) (sym is) (begun_orderly roster (speaking_v21 first) (begins_v21 roster first begins))) lasts)
 
 -- no resync request waits in the session itself
 pub never_waits : (roster : List Definition) (begun s : StandingState) (steps : List Happening) (c : Course) → BeginsToStay roster begun → Lasts begun steps s → s.session.phase ≡ phases.Open c → c.waits ≡ false
 never_waits roster begun s steps c (first, now, begins, is) lasts opens =
-    (subst IsOrderly opens (orderly_lasts steps begun s (subst (λ (x : StandingState). IsOrderly x.session.phase) (sym is) (begun_orderly roster first begins)) lasts)).0
+    (subst IsOrderly opens (orderly_lasts steps begun s (subst (λ (x : StandingState). IsOrderly x.session.phase) (sym is) (begun_orderly roster (speaking_v21 first) (begins_v21 roster first begins))) lasts)).0

@@ -2,6 +2,7 @@
 use Rattle.std.proofs.Common.{◌≡◌, ◌≢◌, ℕ, Bool, true, false, List, [], ◌∷◌, ◌++◌, Option, Some, None, Result, Ok, Err, refl, sym, ap, subst, ◌∙◌, drop}
 use Rattle.table_types.specs.declared.copies.Settled.{Settled}
 use Rattle.table_types.specs.declared.copies.Settled.TheVariants as settles
+use Rattle.table_types.specs.declared.version.Version.{Version}
 use Rattle.peers_hello.specs.declared.hello.Hello.{Hello}
 use Rattle.peers_hello.specs.declared.hello.Answer.{Answer}
 use Rattle.peers_hello.specs.declared.hello.Answer.TheVariants as answers
@@ -29,7 +30,7 @@ use Rattle.session_core.specs.declared.phase.Greeter.TheVariants as greeters
 use Rattle.session_core.specs.Phases.{Phase}
 use Rattle.session_core.specs.Phases as phases
 use Rattle.session_core.specs.Courses.{Course, AreReceived, Answered, Receives, ReceivesAll, IsHalted, acks_sent, course_fed, message_received, is_failure, table_to_ask}
-use Rattle.session_core.specs.Sessions.{SessionState, Accepts, Concludes, Connects, FinishesResync, Goes, GoesHello, GoesIn, GoesNew, GoesOpen, Greets, HasNothing, IsCopied, IsWelcomed, ReceivesBytes, Settles, StartsPendingResync, Turns, confirmed_by, ended, going, only_v21}
+use Rattle.session_core.specs.Sessions.{SessionState, Accepts, Concludes, Connects, FinishesResync, Goes, GoesHello, GoesIn, GoesNew, GoesOpen, Greets, HasNothing, IsCopied, IsWelcomed, ReceivesBytes, Settles, StartsPendingResync, Turns, confirmed_by, ended, going, answer_from, opening, speaking}
 
 -- two results that equal the same result are equal
 both : {given acts others : List Action} → {then e end : SessionState} → (acts ≡ given) × (e ≡ then) → (others ≡ given) × (end ≡ then) → (acts ≡ others) × (e ≡ end)
@@ -141,7 +142,7 @@ concludes_once : (s e end : SessionState) (c : Course) (how : Result (Unit {0}) 
 concludes_once s e end c (Ok _) given acts others p q = same_end s e end (λ (x : List Action). confirmed_by x (going s (acks_sent c))) acts others (p.0 ∙ sym q.0) p.1 q.1
 concludes_once s e end c (Err halts.Failed) given acts others p q = same_end s e end (λ (x : List Action). confirmed_by x (ended s)) acts others (p.0 ∙ sym q.0) p.1 q.1
 concludes_once s e end c (Err (halts.Fault fault)) given acts others p q =
-    same_end s e end (λ (x : List Action). confirmed_by x (record { phase = phases.Ended; known = s.known; fault = Some fault; confirmed = s.confirmed })) acts others (p.0 ∙ sym q.0) p.1 q.1
+    same_end s e end (λ (x : List Action). confirmed_by x (record s { phase = phases.Ended; fault = Some fault })) acts others (p.0 ∙ sym q.0) p.1 q.1
 concludes_once s e end c (Err halts.Memory) given acts others p q = absurd p
 
 received_once : (s e end : SessionState) (c : Course) (first given given' acts others : List Action) (a b : Result (Unit {0}) Halt)
@@ -173,23 +174,23 @@ new_once s e end hello c (events.Written known) acts others p q = absurd p
 new_once s e end hello c (events.Settled table settled) acts others p q = absurd p
 new_once s e end hello c (events.Refused table) acts others p q = absurd p
 
-welcomed_once : (welcome : Bool) (s e end : SessionState) (c : Course) (rest : List ℕ) (acts others : List Action) → IsWelcomed welcome s c rest acts e → IsWelcomed welcome s c rest others end → (acts ≡ others) × (e ≡ end)
-welcomed_once true s e end c rest acts others p q = bytes_once s e end (course_fed c rest) (sends_control controls.ResyncRequest ∷ []) acts others p q
-welcomed_once false s e end c rest acts others p q = both p q
+welcomed_once : (welcome : Bool) (version : Version) (code : ℕ) (s e end : SessionState) (c : Course) (rest : List ℕ) (acts others : List Action) → IsWelcomed welcome version code s c rest acts e → IsWelcomed welcome version code s c rest others end → (acts ≡ others) × (e ≡ end)
+welcomed_once true version code s e end c rest acts others p q = bytes_once (speaking version s) e end (course_fed c rest) (sends_control controls.ResyncRequest ∷ opening version c.shares) acts others p q
+welcomed_once false version code s e end c rest acts others p q = both p q
 
-connects_once : (status : Status) (s e end : SessionState) (bytes : List ℕ) (c : Course) (acts others : List Action) → Connects status s bytes c acts e → Connects status s bytes c others end → (acts ≡ others) × (e ≡ end)
-connects_once statuses.More s e end bytes c acts others p q = both p q
-connects_once (statuses.Code code used) s e end bytes c acts others p q = welcomed_once _ s e end c _ acts others p q
-connects_once (statuses.Other used) s e end bytes c acts others p q = both p q
+connects_once : (version : Version) (status : Status) (s e end : SessionState) (bytes : List ℕ) (c : Course) (acts others : List Action) → Connects version status s bytes c acts e → Connects version status s bytes c others end → (acts ≡ others) × (e ≡ end)
+connects_once version statuses.More s e end bytes c acts others p q = both p q
+connects_once version (statuses.Code code used) s e end bytes c acts others p q = welcomed_once _ version code s e end c _ acts others p q
+connects_once version (statuses.Other used) s e end bytes c acts others p q = both p q
 
 accepts_once : (answer : Answer) (s e end : SessionState) (greeter : Greeter) (bytes : List ℕ) (c : Course) (acts others : List Action) → Accepts answer s greeter bytes c acts e → Accepts answer s greeter bytes c others end → (acts ≡ others) × (e ≡ end)
 accepts_once answers.More s e end greeter bytes c acts others p q = both p q
-accepts_once (answers.Accepted name version used) s e end greeter bytes c acts others p q = bytes_once s e end (course_fed c (drop used bytes)) (actions.Send (status_text 200) ∷ []) acts others p q
+accepts_once (answers.Accepted name version used) s e end greeter bytes c acts others p q = bytes_once (speaking version s) e end (course_fed c (drop used bytes)) (actions.Send (status_text 200) ∷ opening version c.shares) acts others p q
 accepts_once (answers.Refused code used) s e end greeter bytes c acts others p q = both p q
 
 greets_once : (greeter : Greeter) (s e end : SessionState) (bytes : List ℕ) (c : Course) (acts others : List Action) → Greets s greeter bytes c acts e → Greets s greeter bytes c others end → (acts ≡ others) × (e ≡ end)
-greets_once greeters.Connects s e end bytes c acts others p q = connects_once (status_of bytes) s e end bytes c acts others p q
-greets_once (greeters.Accepts own peers) s e end bytes c acts others p q = accepts_once (only_v21 (answer_of own peers bytes)) s e end _ bytes c acts others p q
+greets_once (greeters.Connects version) s e end bytes c acts others p q = connects_once version (status_of bytes) s e end bytes c acts others p q
+greets_once (greeters.Accepts own peers oldest) s e end bytes c acts others p q = accepts_once (answer_from oldest (answer_of own peers bytes)) s e end _ bytes c acts others p q
 
 hello_once : (s e end : SessionState) (greeter : Greeter) (bytes : List ℕ) (c : Course) (event : Event) (acts others : List Action) → GoesHello s greeter bytes c event acts e → GoesHello s greeter bytes c event others end → (acts ≡ others) × (e ≡ end)
 hello_once s e end greeter bytes c (events.Bytes piece) acts others p q = greets_once greeter s e end (bytes ++ piece) c acts others p q
@@ -243,7 +244,7 @@ open_once s e end c (events.Copied table batch) acts others (mid, answered, p) (
 open_once s e end c (events.Nothing table) acts others (mid, answered, p) (next, answered', q) =
     nothing_once mid.teaching s e end mid table acts others p (subst (λ (x : Course). HasNothing x.teaching s x table others end) (answered_once c mid next _ answered answered') q)
 open_once s e end c (events.Written known) acts others (mid, answered, none, then) (next, answered', none', then') =
-    both (none, then) (none', then' ∙ ap (λ (x : Course). record { phase = phases.Open x; known = known; fault = s.fault; confirmed = s.confirmed }) (answered_once c mid next _ answered answered'))
+    both (none, then) (none', then' ∙ ap (λ (x : Course). record s { phase = phases.Open x; known = known }) (answered_once c mid next _ answered answered'))
 open_once s e end c (events.Settled table settled) acts others (mid, answered, p) (next, answered', q) =
     settles_once settled s e end mid table acts others p (subst (λ (x : Course). Settles settled s x table others end) (answered_once c mid next _ answered answered') q)
 open_once s e end c (events.Refused table) acts others (mid, answered, parts, then) (next, answered', parts', then') = both (parts, then) (parts', then')

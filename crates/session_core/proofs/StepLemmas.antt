@@ -7,6 +7,7 @@ use Rattle.table_types.specs.declared.copies.CopyKind.{CopyKind}
 use Rattle.table_types.specs.declared.copies.CopyKind.TheVariants as kinds
 use Rattle.table_types.specs.declared.copies.Settled.{Settled}
 use Rattle.table_types.specs.declared.copies.Settled.TheVariants as settles
+use Rattle.table_types.specs.declared.version.Version.{Version}
 use Rattle.peers_hello.specs.declared.hello.Hello.{Hello}
 use Rattle.peers_hello.specs.declared.hello.Answer.{Answer}
 use Rattle.peers_hello.specs.declared.hello.Answer.TheVariants as answers
@@ -32,11 +33,11 @@ use Rattle.session_core.specs.Shares.{out_set, quiet_set, next_table}
 use Rattle.session_core.specs.Actions.{sends_control, sends_acks, status_text}
 use Rattle.peers_msg.specs.declared.control.Control.TheVariants as controls
 use Rattle.session_core.specs.Courses.{Course, course_fed, ReceivesAll, acks_given, acks_sent, table_to_ask, kind_of, teaching_anew}
-use Rattle.session_core.specs.Sessions.{SessionState, Concludes, ReceivesBytes, IsWelcomed, Connects, Accepts, Greets, GoesNew, GoesHello, GoesOpen, GoesIn, Turns, IsCopied, HasNothing, FinishesResync, StartsPendingResync, Settles, only_v21}
+use Rattle.session_core.specs.Sessions.{SessionState, Concludes, ReceivesBytes, IsWelcomed, Connects, Accepts, Greets, GoesNew, GoesHello, GoesOpen, GoesIn, Turns, IsCopied, HasNothing, FinishesResync, StartsPendingResync, Settles, answer_from, opening, speaking}
 use Rattle.session_core.specs.Runs.{copies, reopened, IsLeft, HasNothingLeft}
 use Rattle.session_core.proofs.ShareLemmas.{shares_in, set_at, never, out_set_in, quiet_set_in, IsFree, next_free, no_clash}
-use Rattle.session_core.proofs.EndLemmas.{is_plain, plain_append, plain_all, plain_acks, plain_status}
-use Rattle.session_core.proofs.RunLemmas.{IsSound, IsCalm, IsFresh, IsKeptIn, AreFlags, IsDueSound, no_copies, due_sound, due_rest, calm_sound, fresh_calm, flags_more, calm_more, IsCalmAfter, reopened_append, calm_all_received, anew_flags, left_more}
+use Rattle.session_core.proofs.EndLemmas.{is_plain, plain_append, plain_all, plain_acks, plain_ready, plain_status}
+use Rattle.session_core.proofs.RunLemmas.{IsSound, IsCalm, IsFresh, IsKeptIn, AreFlags, IsDueSound, no_copies, due_sound, due_rest, calm_sound, flags_more, calm_more, IsCalmAfter, reopened_append, fresh_after, calm_all, anew_flags, left_more}
 
 abbrev pub with_step : List (Event × List Action) → Event → List Action → List (Event × List Action)
 with_step steps event acts = steps ++ ((event, acts) ∷ [])
@@ -47,26 +48,22 @@ stands ids steps e phase is kept = subst (IsKeptIn ids steps) (sym is) kept
 
 -- ---- bytes
 
--- what is sent before the messages are received
-abbrev IsOpening : ℕ → List Action → Type 0
-IsOpening id first = is_plain id first × (reopened id first ≡ false)
-
 -- the acknowledgements reopen nothing
 acks_reopen_none : (id : ℕ) (ms : List Message) → reopened id (sends_acks ms) ≡ false
 acks_reopen_none id [] = refl
 acks_reopen_none id (m ∷ ms) = refl
 
-received_more : (ids : List ℕ) (steps : List (Event × List Action)) (mid : Course) (event : Event) (first given acts : List Action) → ((id : ℕ) → copies id acts ≡ false) → acts ≡ (first ++ given) ++ acks_given mid → ((id : ℕ) → IsOpening id first) → IsCalmAfter ids steps given mid → IsCalm ids (with_step steps event acts) mid
-received_more ids steps mid event first given acts no_copy is opening (out, quiet, flags, none, still) =
+received_more : (ids : List ℕ) (steps : List (Event × List Action)) (mid : Course) (event : Event) (first given acts : List Action) → ((id : ℕ) → copies id acts ≡ false) → acts ≡ (first ++ given) ++ acks_given mid → IsCalmAfter ids steps (first ++ given) mid → IsCalm ids (with_step steps event acts) mid
+received_more ids steps mid event first given acts no_copy is (out, quiet, flags, none, still) =
     let reopens_none : mid.teaching ≡ true → (id : ℕ) → quiet id ≡ true → reopened id acts ≡ false = λ teaching id quiets.
-    ap (reopened id) is ∙ reopened_append id (first ++ given) (acks_given mid) (reopened_append id first given (opening id).1 (still teaching id quiets)) (acks_reopen_none id (due_acks mid.intake)) in
+    ap (reopened id) is ∙ reopened_append id (first ++ given) (acks_given mid) (still teaching id quiets) (acks_reopen_none id (due_acks mid.intake)) in
     (out, quiet, flags_more ids steps mid.teaching mid.shares out quiet event acts (λ teaching id quiets. (no_copy id, reopens_none teaching id quiets)) flags, none)
 
-received_kept : (ids : List ℕ) (steps : List (Event × List Action)) (s : SessionState) (c : Course) (first acts : List Action) (e : SessionState) (event : Event) (result : Result (Unit {0}) Halt) (given : List Action) (mid : Course) → IsCalm ids steps c → ((id : ℕ) → IsOpening id first) → ReceivesAll c result given mid → Concludes s mid result (first ++ given) acts e → IsKeptIn ids (with_step steps event acts) e.phase
+received_kept : (ids : List ℕ) (steps : List (Event × List Action)) (s : SessionState) (c : Course) (first acts : List Action) (e : SessionState) (event : Event) (result : Result (Unit {0}) Halt) (given : List Action) (mid : Course) → IsCalmAfter ids steps first c → ((id : ℕ) → is_plain id first) → ReceivesAll c result given mid → Concludes s mid result (first ++ given) acts e → IsKeptIn ids (with_step steps event acts) e.phase
 received_kept ids steps s c first acts e event (Ok u) given mid calm plain (ts, are, waits) (is, ends) =
     let no_copy : (id : ℕ) → copies id acts ≡ false = λ id.
-    rw is ((plain_append id (first ++ given) (acks_given mid) (plain_append id first given (plain id).0 (plain_all id c mid ts given are)) (plain_acks id mid.intake)).1) in
-    let calm_then : IsCalm ids (with_step steps event acts) mid = received_more ids steps mid event first given acts no_copy is plain (calm_all_received ids steps c mid ts given are calm) in
+    rw is ((plain_append id (first ++ given) (acks_given mid) (plain_append id first given (plain id) (plain_all id c mid ts given are)) (plain_acks id mid.intake)).1) in
+    let calm_then : IsCalm ids (with_step steps event acts) mid = received_more ids steps mid event first given acts no_copy is (calm_all ids steps first c mid ts given are calm) in
     stands ids (with_step steps event acts) e (phases.Open (acks_sent mid)) (ap (λ (x : SessionState). x.phase) ends) (calm_sound ids (with_step steps event acts) (acks_sent mid) calm_then)
 received_kept ids steps s c first acts e event (Err halts.Failed) given mid calm plain receives (is, ends) =
     stands ids (with_step steps event acts) e phases.Ended (ap (λ (x : SessionState). x.phase) ends) tt
@@ -74,14 +71,14 @@ received_kept ids steps s c first acts e event (Err (halts.Fault fault)) given m
     stands ids (with_step steps event acts) e phases.Ended (ap (λ (x : SessionState). x.phase) ends) tt
 received_kept ids steps s c first acts e event (Err halts.Memory) given mid calm plain receives concludes = absurd concludes
 
-receives_kept : (ids : List ℕ) (steps : List (Event × List Action)) (s : SessionState) (c : Course) (first acts : List Action) (e : SessionState) (event : Event) → IsCalm ids steps c → ((id : ℕ) → IsOpening id first) → ReceivesBytes s c first acts e → IsKeptIn ids (with_step steps event acts) e.phase
+receives_kept : (ids : List ℕ) (steps : List (Event × List Action)) (s : SessionState) (c : Course) (first acts : List Action) (e : SessionState) (event : Event) → IsCalmAfter ids steps first c → ((id : ℕ) → is_plain id first) → ReceivesBytes s c first acts e → IsKeptIn ids (with_step steps event acts) e.phase
 receives_kept ids steps s c first acts e event calm plain (result, given, mid, receives, concludes) =
     received_kept ids steps s c first acts e event result given mid calm plain receives concludes
 
 -- ---- New and Hello
 
 new_kept : (ids : List ℕ) (steps : List (Event × List Action)) (s : SessionState) (hello : Hello) (c : Course) (event : Event) (acts : List Action) (e : SessionState) → IsFresh ids c → GoesNew s hello c event acts e → IsKeptIn ids (with_step steps event acts) e.phase
-new_kept ids steps s hello c events.Opened acts e fresh (is, ends) = stands ids _ e (phases.Hello greeters.Connects [] c) (ap (λ (x : SessionState). x.phase) ends) fresh
+new_kept ids steps s hello c events.Opened acts e fresh (is, ends) = stands ids _ e (phases.Hello (greeters.Connects hello.version) [] c) (ap (λ (x : SessionState). x.phase) ends) fresh
 new_kept ids steps s hello c events.Turn acts e fresh (is, ends) = stands ids _ e (phases.New hello c) (ap (λ (x : SessionState). x.phase) ends) fresh
 new_kept ids steps s hello c events.End acts e fresh (is, ends) = stands ids (with_step steps events.End acts) e phases.Ended (ap (λ (x : SessionState). x.phase) ends) tt
 new_kept ids steps s hello c events.ReadFault acts e fresh (is, ends) = stands ids (with_step steps events.ReadFault acts) e phases.Ended (ap (λ (x : SessionState). x.phase) ends) tt
@@ -93,23 +90,23 @@ new_kept ids steps s hello c (events.Written known) acts e fresh goes = absurd g
 new_kept ids steps s hello c (events.Settled table settled) acts e fresh goes = absurd goes
 new_kept ids steps s hello c (events.Refused table) acts e fresh goes = absurd goes
 
-welcomed_kept : (ids : List ℕ) (steps : List (Event × List Action)) (b : Bool) (s : SessionState) (c : Course) (rest : List ℕ) (acts : List Action) (e : SessionState) (event : Event) → IsFresh ids c → IsWelcomed b s c rest acts e → IsKeptIn ids (with_step steps event acts) e.phase
-welcomed_kept ids steps true s c rest acts e event fresh receives = receives_kept ids steps s (course_fed c rest) (sends_control controls.ResyncRequest ∷ []) acts e event (fresh_calm ids steps c fresh) (λ id. ((refl, refl), refl)) receives
-welcomed_kept ids steps false s c rest acts e event fresh (is, ends) = stands ids (with_step steps event acts) e phases.Ended (ap (λ (x : SessionState). x.phase) ends) tt
+welcomed_kept : (ids : List ℕ) (steps : List (Event × List Action)) (b : Bool) (version : Version) (code : ℕ) (s : SessionState) (c : Course) (rest : List ℕ) (acts : List Action) (e : SessionState) (event : Event) → IsFresh ids c → IsWelcomed b version code s c rest acts e → IsKeptIn ids (with_step steps event acts) e.phase
+welcomed_kept ids steps true version code s c rest acts e event fresh receives = receives_kept ids steps (speaking version s) (course_fed c rest) (sends_control controls.ResyncRequest ∷ opening version c.shares) acts e event (fresh_after ids steps (sends_control controls.ResyncRequest ∷ opening version c.shares) c fresh) (λ id. plain_ready id (sends_control controls.ResyncRequest) version c.shares (refl, refl)) receives
+welcomed_kept ids steps false version code s c rest acts e event fresh (is, ends) = stands ids (with_step steps event acts) e phases.Ended (ap (λ (x : SessionState). x.phase) ends) tt
 
-connects_kept : (ids : List ℕ) (steps : List (Event × List Action)) (status : Status) (s : SessionState) (bytes : List ℕ) (c : Course) (acts : List Action) (e : SessionState) (event : Event) → IsFresh ids c → Connects status s bytes c acts e → IsKeptIn ids (with_step steps event acts) e.phase
-connects_kept ids steps statuses.More s bytes c acts e event fresh (is, ends) = stands ids _ e (phases.Hello greeters.Connects bytes c) (ap (λ (x : SessionState). x.phase) ends) fresh
-connects_kept ids steps (statuses.Code code used) s bytes c acts e event fresh goes = welcomed_kept ids steps _ s c _ acts e event fresh goes
-connects_kept ids steps (statuses.Other used) s bytes c acts e event fresh (is, ends) = stands ids (with_step steps event acts) e phases.Ended (ap (λ (x : SessionState). x.phase) ends) tt
+connects_kept : (ids : List ℕ) (steps : List (Event × List Action)) (version : Version) (status : Status) (s : SessionState) (bytes : List ℕ) (c : Course) (acts : List Action) (e : SessionState) (event : Event) → IsFresh ids c → Connects version status s bytes c acts e → IsKeptIn ids (with_step steps event acts) e.phase
+connects_kept ids steps version statuses.More s bytes c acts e event fresh (is, ends) = stands ids _ e (phases.Hello (greeters.Connects version) bytes c) (ap (λ (x : SessionState). x.phase) ends) fresh
+connects_kept ids steps version (statuses.Code code used) s bytes c acts e event fresh goes = welcomed_kept ids steps _ version code s c _ acts e event fresh goes
+connects_kept ids steps version (statuses.Other used) s bytes c acts e event fresh (is, ends) = stands ids (with_step steps event acts) e phases.Ended (ap (λ (x : SessionState). x.phase) ends) tt
 
 accepts_kept : (ids : List ℕ) (steps : List (Event × List Action)) (answer : Answer) (s : SessionState) (greeter : Greeter) (bytes : List ℕ) (c : Course) (acts : List Action) (e : SessionState) (event : Event) → IsFresh ids c → Accepts answer s greeter bytes c acts e → IsKeptIn ids (with_step steps event acts) e.phase
 accepts_kept ids steps answers.More s greeter bytes c acts e event fresh (is, ends) = stands ids _ e (phases.Hello greeter bytes c) (ap (λ (x : SessionState). x.phase) ends) fresh
-accepts_kept ids steps (answers.Accepted name version used) s greeter bytes c acts e event fresh goes = receives_kept ids steps s (course_fed c (drop used bytes)) (actions.Send (status_text 200) ∷ []) acts e event (fresh_calm ids steps c fresh) (λ id. (plain_status id 200, refl)) goes
+accepts_kept ids steps (answers.Accepted name version used) s greeter bytes c acts e event fresh goes = receives_kept ids steps (speaking version s) (course_fed c (drop used bytes)) (actions.Send (status_text 200) ∷ opening version c.shares) acts e event (fresh_after ids steps (actions.Send (status_text 200) ∷ opening version c.shares) c fresh) (λ id. plain_ready id (actions.Send (status_text 200)) version c.shares (plain_status id 200)) goes
 accepts_kept ids steps (answers.Refused code used) s greeter bytes c acts e event fresh (is, ends) = stands ids (with_step steps event acts) e phases.Ended (ap (λ (x : SessionState). x.phase) ends) tt
 
 greets_kept : (ids : List ℕ) (steps : List (Event × List Action)) (s : SessionState) (greeter : Greeter) (bytes : List ℕ) (c : Course) (acts : List Action) (e : SessionState) (event : Event) → IsFresh ids c → Greets s greeter bytes c acts e → IsKeptIn ids (with_step steps event acts) e.phase
-greets_kept ids steps s greeters.Connects bytes c acts e event fresh goes = connects_kept ids steps (status_of bytes) s bytes c acts e event fresh goes
-greets_kept ids steps s (greeters.Accepts own peers) bytes c acts e event fresh goes = accepts_kept ids steps (only_v21 (answer_of own peers bytes)) s (greeters.Accepts own peers) bytes c acts e event fresh goes
+greets_kept ids steps s (greeters.Connects version) bytes c acts e event fresh goes = connects_kept ids steps version (status_of bytes) s bytes c acts e event fresh goes
+greets_kept ids steps s (greeters.Accepts own peers oldest) bytes c acts e event fresh goes = accepts_kept ids steps (answer_from oldest (answer_of own peers bytes)) s (greeters.Accepts own peers oldest) bytes c acts e event fresh goes
 
 hello_kept : (ids : List ℕ) (steps : List (Event × List Action)) (s : SessionState) (greeter : Greeter) (bytes : List ℕ) (c : Course) (event : Event) (acts : List Action) (e : SessionState) → IsFresh ids c → GoesHello s greeter bytes c event acts e → IsKeptIn ids (with_step steps event acts) e.phase
 hello_kept ids steps s greeter bytes c (events.Bytes piece) acts e fresh goes = greets_kept ids steps s greeter (bytes ++ piece) c acts e (events.Bytes piece) fresh goes
@@ -265,7 +262,7 @@ open_kept : (ids : List ℕ) (steps : List (Event × List Action)) (s : SessionS
 open_kept ids steps s c events.Turn acts e (out, quiet, flags, sound) (none, turns) =
     turns_kept ids steps (table_to_ask c) s c acts e refl (out, quiet, flags, rw none refl) turns
 open_kept ids steps s c (events.Bytes bytes) acts e (out, quiet, flags, sound) (none, receives) =
-    receives_kept ids steps s (course_fed c bytes) [] acts e (events.Bytes bytes) (out, quiet, flags, rw none refl) (λ id. ((refl, refl), refl)) receives
+    receives_kept ids steps s (course_fed c bytes) [] acts e (events.Bytes bytes) (out, quiet, flags, rw none refl, λ _ id _. refl) (λ id. (refl, refl)) receives
 open_kept ids steps s c (events.Copied table batch) acts e sound (mid, answered, copied) =
     copied_kept ids steps s c table batch mid.due acts e (events.Copied table batch) sound answered.0 (subst (λ (m : Course). IsCopied s m table batch acts e) answered.1 copied)
 open_kept ids steps s c (events.Nothing table) acts e sound (mid, answered, nothing) =

@@ -1,12 +1,14 @@
 -- Runs of a session, and what holds when it ends a resync.
-use Rattle.std.specs.Prelude.{◌≡◌, ◌⊎◌, ℕ, Bool, false, ◌==◌, ◌||◌, List, [], ◌∷◌, ◌++◌}
+use Rattle.std.specs.Prelude.{◌≡◌, ◌⊎◌, ℕ, Bool, false, ◌==◌, ◌||◌, List, [], ◌∷◌, ◌++◌, Option, Some, None}
 use Rattle.std.specs.List.{list_any, AllByRecursion}
 use Rattle.table_types.specs.Tables.{Definition}
 use Rattle.table_types.specs.declared.copies.CopyKind.TheVariants as kinds
+use Rattle.table_types.specs.declared.version.Version.{Version}
 use Rattle.peers_msg.specs.Integers.{IsBytes}
 use Rattle.peers_msg.specs.declared.control.Control.TheVariants as controls
 use Rattle.peers_hello.specs.declared.hello.Hello.{Hello}
 use Rattle.peers_hello.specs.Lines.{is_same}
+use Rattle.peers_hello.specs.Meetings.{Meeting, Opens, Refuses}
 use Rattle.session_core.specs.declared.action.Action.{Action}
 use Rattle.session_core.specs.declared.action.Action.TheVariants as actions
 use Rattle.session_core.specs.declared.event.Event.{Event}
@@ -16,7 +18,7 @@ use Rattle.session_core.specs.Phases as phases
 use Rattle.session_core.specs.Actions.{control_text, confirms}
 use Rattle.session_core.specs.Shares.{any_out}
 use Rattle.session_core.specs.Courses.{Course}
-use Rattle.session_core.specs.Sessions.{SessionState, Goes, connecting, accepting}
+use Rattle.session_core.specs.Sessions.{SessionState, Goes, connecting, accepting_from, falls_back}
 
 -- the events of a run in order, each with the actions that it asked for
 abbrev pub Runs : SessionState → List (Event × List Action) → SessionState → Type 0
@@ -27,7 +29,7 @@ Runs s (step ∷ steps) e = (mid : SessionState) × Goes s step.0 step.1 mid × 
 abbrev pub IsBegun : List Definition → SessionState → Type 0
 IsBegun roster s =
     ((hello : Hello) × (up_to_date : Bool) × (s ≡ connecting hello roster up_to_date))
-    ⊎ ((own : List ℕ) × (peers : List (List ℕ)) × (up_to_date : Bool) × (s ≡ accepting own peers roster up_to_date))
+    ⊎ ((oldest : Version) × (own : List ℕ) × (peers : List (List ℕ)) × (up_to_date : Bool) × (s ≡ accepting_from oldest own peers roster up_to_date))
 
 -- an action that sends resync finished or resync partial
 abbrev pub is_end : Action → Bool
@@ -85,6 +87,18 @@ HoldsBytes phases.Ended = Unit {0}
 abbrev pub BringsBytes : Event → Type 0
 BringsBytes (events.Bytes bytes) = IsBytes bytes
 BringsBytes event = Unit {0}
+
+-- ---- what the hello comes to
+
+-- the version of a session whose first bytes amount to this
+abbrev pub version_in : Meeting → Option Version
+version_in (Opens version rest) = Some version
+version_in meeting = None
+
+-- a session that said this version in its hello falls back
+abbrev pub falls_back_in : Version → Meeting → Bool
+falls_back_in version (Refuses (Some code)) = falls_back version code
+falls_back_in version meeting = false
 
 -- ---- confirmations
 

@@ -11,6 +11,7 @@ use Rattle.peers_msg.specs.declared.control.Control.TheVariants as controls
 use Rattle.peers_msg.specs.declared.control.ErrorKind.{ErrorKind}
 use Rattle.peers_msg.specs.declared.control.ErrorKind.TheVariants as kinds
 use Rattle.peers_hello.specs.declared.hello.Hello.{Hello}
+use Rattle.table_types.specs.declared.version.Version.{Version}
 use Rattle.table_types.specs.declared.version.Version.TheVariants as versions
 use Rattle.peers_hello.specs.declared.hello.Answer.{Answer}
 use Rattle.peers_hello.specs.declared.hello.Answer.TheVariants as answers
@@ -42,17 +43,21 @@ use Rattle.session_core.specs.declared.phase.Stage.TheVariants as stages
 use Rattle.session_core.specs.declared.machine.Machine.{Machine}
 use Rattle.session_core.specs.declared.handshake.Handshake.{Handshake}
 use Rattle.session_core.specs.declared.handshake.Handshake.TheVariants as handshakes
+use Rattle.session_core.specs.declared.share.Share.{Share}
 use Rattle.session_core.specs.Shares.{any_out, all_quiet, out_set, quiet_set}
 use Rattle.session_core.specs.Actions.{sends_control, status_text, reopens, confirms}
 use Rattle.session_core.specs.Courses.{Course, course_begun, course_fed, teaching_anew, ReceivesAll, acks_sent, acks_given, kind_of, table_to_ask, is_due, none_due, Answered, finished, state_of_course}
 
 -- A session's phase; what it knows of the remote peer as a learner; the fault in the remote peer's messages that ended
--- it, if any; and whether it sent resync confirmed.
+-- it, if any; whether it sent resync confirmed; the version that both peers speak, once the hello is done; and whether it
+-- fell back: it said version 2.1, and status 502 ended it.
 pub record SessionState : Type 0 where
   pub phase : Phase
   pub known : KnownState
   pub fault : Option Fault
   pub confirmed : Bool
+  pub version : Option Version
+  pub fell_back : Bool
 
 -- the phase of a session at a stage with the course `c`; at its end the course no longer matters
 abbrev pub phase_of : Stage → Course → Phase
@@ -63,10 +68,10 @@ phase_of stages.Ended c = phases.Ended
 
 -- the state of the session that a machine steps
 abbrev pub seen : Machine → SessionState
-seen m = record { phase = phase_of m.stage m.course; known = m.known; fault = m.fault; confirmed = m.confirmed }
+seen m = record { phase = phase_of m.stage m.course; known = m.known; fault = m.fault; confirmed = m.confirmed; version = m.version; fell_back = m.fell_back }
 
 abbrev pub in_phase : SessionState → Phase → SessionState
-in_phase s phase = record { phase = phase; known = s.known; fault = s.fault; confirmed = s.confirmed }
+in_phase s phase = record s { phase = phase }
 
 -- the session is over; what it knew stays readable
 abbrev pub ended : SessionState → SessionState
@@ -78,13 +83,21 @@ going s c = in_phase s (phases.Open c)
 
 -- ---- the beginning
 
+-- a new session
+abbrev pub begins_in : Phase → List Definition → SessionState
+begins_in phase roster = record { phase = phase; known = fresh_of roster; fault = None; confirmed = false; version = None; fell_back = false }
+
 -- the side that opens the connection and sends the hello
 abbrev pub connecting : Hello → List Definition → Bool → SessionState
-connecting hello roster up_to_date = record { phase = phases.New hello (course_begun roster up_to_date); known = fresh_of roster; fault = None; confirmed = false }
+connecting hello roster up_to_date = begins_in (phases.New hello (course_begun roster up_to_date)) roster
 
--- the side that accepts the connection: this node is `own`, and accepts `peers`
+-- the side that accepts the connection: this node is `own`, and accepts `peers` of version `oldest` and later
+abbrev pub accepting_from : Version → List ℕ → List (List ℕ) → List Definition → Bool → SessionState
+accepting_from oldest own peers roster up_to_date = begins_in (phases.Hello (greeters.Accepts own peers oldest) [] (course_begun roster up_to_date)) roster
+
+-- the same, of every version
 abbrev pub accepting : List ℕ → List (List ℕ) → List Definition → Bool → SessionState
-accepting own peers roster up_to_date = record { phase = phases.Hello (greeters.Accepts own peers) [] (course_begun roster up_to_date); known = fresh_of roster; fault = None; confirmed = false }
+accepting own peers roster up_to_date = accepting_from versions.V20 own peers roster up_to_date
 
 -- ---- what several phases share
 
@@ -109,7 +122,7 @@ kind_of_fault fault = kinds.Protocol
 
 -- the session is confirmed if it was before, or if one of the actions sends resync confirmed
 abbrev pub confirmed_by : List Action → SessionState → SessionState
-confirmed_by acts s = record { phase = s.phase; known = s.known; fault = s.fault; confirmed = s.confirmed || confirms acts }
+confirmed_by acts s = record s { confirmed = s.confirmed || confirms acts }
 
 -- What follows the received messages: the acknowledgements that are due, unless one of the messages halted the session.
 -- An error message closes the connection, and the session answers a fault with an error message, both without the
@@ -119,7 +132,7 @@ Concludes s c (Ok _) given acts e = (acts ≡ given ++ acks_given c) × (e ≡ c
 Concludes s c (Err halts.Failed) given acts e = (acts ≡ given ++ (actions.Close ∷ [])) × (e ≡ confirmed_by acts (ended s))
 Concludes s c (Err (halts.Fault fault)) given acts e =
     (acts ≡ given ++ (actions.Part (kind_of_fault fault) ∷ []))
-    × (e ≡ confirmed_by acts (record { phase = phases.Ended; known = s.known; fault = Some fault; confirmed = s.confirmed }))
+    × (e ≡ confirmed_by acts (record s { phase = phases.Ended; fault = Some fault }))
 Concludes s c (Err halts.Memory) given acts e = ⊥
 
 -- The course `c` was fed bytes: its messages are received one after another, after the actions first.
@@ -134,7 +147,7 @@ ReceivesBytes s c first acts e =
 -- ---- New
 
 abbrev pub GoesNew : SessionState → Hello → Course → Event → List Action → SessionState → Type 0
-GoesNew s hello c events.Opened acts e = (acts ≡ actions.Send (hello_text hello) ∷ []) × (e ≡ in_phase s (phases.Hello greeters.Connects [] c))
+GoesNew s hello c events.Opened acts e = (acts ≡ actions.Send (hello_text hello) ∷ []) × (e ≡ in_phase s (phases.Hello (greeters.Connects hello.version) [] c))
 GoesNew s hello c events.Turn acts e = Stays s (phases.New hello c) acts e
 GoesNew s hello c events.End acts e = Closes s acts e
 GoesNew s hello c events.ReadFault acts e = Closes s acts e
@@ -143,38 +156,65 @@ GoesNew s hello c event acts e = ⊥
 
 -- ---- Hello
 
--- the session answers status 200 with a resync request, and the bytes after it are messages; any other status closes
-abbrev pub IsWelcomed : Bool → SessionState → Course → List ℕ → List Action → SessionState → Type 0
-IsWelcomed true s c rest acts e = ReceivesBytes s (course_fed c rest) (sends_control controls.ResyncRequest ∷ []) acts e
-IsWelcomed false s c rest acts e = Closes s acts e
+-- What a session adds on becoming Ready: one of version 2.0 reopens each table, in roster order.
+abbrev pub opening : Version → List Share → List Action
+opening versions.V20 ss = reopens ss
+opening versions.V21 ss = []
+
+-- both peers speak this version
+abbrev pub speaking : Version → SessionState → SessionState
+speaking version s = record s { version = Some version }
+
+-- The hello is done, and `rest` are the bytes of messages after it. The session does this first, and what its version adds.
+abbrev pub BecomesReady : Version → Action → SessionState → Course → List ℕ → List Action → SessionState → Type 0
+BecomesReady version first s c rest acts e = ReceivesBytes (speaking version s) (course_fed c rest) (first ∷ opening version c.shares) acts e
+
+-- a session that said version 2.1 falls back at status 502
+abbrev pub falls_back : Version → ℕ → Bool
+falls_back versions.V20 code = false
+falls_back versions.V21 code = code == 502
+
+abbrev pub falling_back : Bool → SessionState → SessionState
+falling_back falls s = record s { fell_back = falls || s.fell_back }
+
+-- The session, which said this version, answers status 200 with a resync request. Any other status closes.
+abbrev pub IsWelcomed : Bool → Version → ℕ → SessionState → Course → List ℕ → List Action → SessionState → Type 0
+IsWelcomed true version code s c rest acts e = BecomesReady version (sends_control controls.ResyncRequest) s c rest acts e
+IsWelcomed false version code s c rest acts e = Closes (falling_back (falls_back version code) s) acts e
 
 -- by the status; the bytes are kept until its line is complete
-abbrev pub Connects : Status → SessionState → List ℕ → Course → List Action → SessionState → Type 0
-Connects statuses.More s bytes c acts e = Stays s (phases.Hello greeters.Connects bytes c) acts e
-Connects (statuses.Code code used) s bytes c acts e = IsWelcomed (code == 200) s c (drop used bytes) acts e
-Connects (statuses.Other used) s bytes c acts e = Closes s acts e
+abbrev pub Connects : Version → Status → SessionState → List ℕ → Course → List Action → SessionState → Type 0
+Connects version statuses.More s bytes c acts e = Stays s (phases.Hello (greeters.Connects version) bytes c) acts e
+Connects version (statuses.Code code used) s bytes c acts e = IsWelcomed (code == 200) version code s c (drop used bytes) acts e
+Connects version (statuses.Other used) s bytes c acts e = Closes s acts e
 
--- Sessions of version 2.0 aren't taken yet: the answer to a hello of that version is 502, as it is for an unknown version.
+-- A peer that speaks version 2.1 alone answers a hello of version 2.0 with 502, as it does one of an unknown version.
 abbrev pub only_v21 : Answer → Answer
 only_v21 (answers.Accepted name versions.V20 used) = answers.Refused 502 used
 only_v21 answer = answer
 
+-- the answer of a peer that speaks version `oldest` and later
+abbrev pub answer_from : Version → Answer → Answer
+answer_from versions.V20 answer = answer
+answer_from versions.V21 answer = only_v21 answer
+
 -- the session answers an accepted hello with status 200, and the bytes after it are messages; any other with its code
 abbrev pub Accepts : Answer → SessionState → Greeter → List ℕ → Course → List Action → SessionState → Type 0
 Accepts answers.More s greeter bytes c acts e = Stays s (phases.Hello greeter bytes c) acts e
-Accepts (answers.Accepted name version used) s greeter bytes c acts e = ReceivesBytes s (course_fed c (drop used bytes)) (actions.Send (status_text 200) ∷ []) acts e
+Accepts (answers.Accepted name version used) s greeter bytes c acts e = BecomesReady version (actions.Send (status_text 200)) s c (drop used bytes) acts e
 Accepts (answers.Refused code used) s greeter bytes c acts e = (acts ≡ actions.Send (status_text code) ∷ (actions.Close ∷ [])) × (e ≡ ended s)
 
 -- by this node's side of the handshake, and the bytes so far
 abbrev pub Greets : SessionState → Greeter → List ℕ → Course → List Action → SessionState → Type 0
-Greets s greeters.Connects bytes c acts e = Connects (status_of bytes) s bytes c acts e
-Greets s (greeters.Accepts own peers) bytes c acts e = Accepts (only_v21 (answer_of own peers bytes)) s (greeters.Accepts own peers) bytes c acts e
+Greets s (greeters.Connects version) bytes c acts e = Connects version (status_of bytes) s bytes c acts e
+Greets s (greeters.Accepts own peers oldest) bytes c acts e = Accepts (answer_from oldest (answer_of own peers bytes)) s (greeters.Accepts own peers oldest) bytes c acts e
 
 -- what follows in a session whose bytes so far amount to this
 abbrev pub Follows : Handshake → SessionState → Greeter → List ℕ → Course → List Action → SessionState → Type 0
 Follows handshakes.Incomplete s greeter bytes c acts e = Stays s (phases.Hello greeter bytes c) acts e
-Follows (handshakes.Accepted used answer) s greeter bytes c acts e = ReceivesBytes s (course_fed c (drop used bytes)) answer.items acts e
-Follows (handshakes.Refused given) s greeter bytes c acts e = (acts ≡ given.items) × (e ≡ ended s)
+Follows (handshakes.Accepted used version answer) s greeter bytes c acts e =
+    ReceivesBytes (speaking version s) (course_fed c (drop used bytes)) (answer.items ++ opening version c.shares) acts e
+Follows (handshakes.Refused given falls) s greeter bytes c acts e = (acts ≡ given.items) × (e ≡ ended (falling_back falls s))
 
 abbrev pub GoesHello : SessionState → Greeter → List ℕ → Course → Event → List Action → SessionState → Type 0
 GoesHello s greeter bytes c (events.Bytes piece) acts e = Greets s greeter (bytes ++ piece) c acts e
@@ -228,7 +268,7 @@ GoesOpen s c (events.Written known) acts e =
     (mid : Course)
     × Answered c dues.Teach mid
     × (acts ≡ [])
-    × (e ≡ record { phase = phases.Open mid; known = known; fault = s.fault; confirmed = s.confirmed })
+    × (e ≡ record s { phase = phases.Open mid; known = known })
 GoesOpen s c (events.Settled table settled) acts e = (mid : Course) × Answered c (dues.Ack table) mid × Settles settled s mid table acts e
 GoesOpen s c (events.Refused table) acts e =
     (mid : Course)
@@ -306,7 +346,7 @@ Refuses phase event error = IsWhy (is_asked phase event) error
 
 -- a refused event leaves what stays readable
 abbrev pub Keeps : Machine → Machine → Type 0
-Keeps m e = (e.known ≡ m.known) × (e.fault ≡ m.fault) × (e.confirmed ≡ m.confirmed)
+Keeps m e = (e.known ≡ m.known) × (e.fault ≡ m.fault) × (e.confirmed ≡ m.confirmed) × (e.version ≡ m.version) × (e.fell_back ≡ m.fell_back)
 
 -- ---- what a caller can read
 

@@ -3,12 +3,14 @@
 use Rattle.std.specs.Prelude.{◌≡◌, ℕ, Bool, true, false, not, ◌==◌, ◌&&◌, ◌||◌, List, [], ◌∷◌, ◌++◌, filter, Some, if◌then◌else◌}
 use Rattle.std.specs.List.{list_any}
 use Rattle.table_types.specs.declared.copies.Settled.TheVariants as settles
+use Rattle.table_types.specs.declared.version.Version.TheVariants as versions
 use Rattle.peers_msg.specs.declared.control.Control.TheVariants as controls
 use Rattle.known_state.specs.Known.{KnownState, without_names}
 use Rattle.session_core.specs.declared.action.Action.{Action}
 use Rattle.session_core.specs.declared.action.Action.TheVariants as actions
 use Rattle.session_core.specs.declared.event.Event.{Event}
 use Rattle.session_core.specs.declared.event.Event.TheVariants as events
+use Rattle.session_core.specs.declared.phase.Greeter.TheVariants as greeters
 use Rattle.session_core.specs.declared.stay.Stay.{Stay}
 use Rattle.session_core.specs.declared.pace.Task.{Task}
 use Rattle.session_core.specs.declared.pace.Task.TheVariants as tasks
@@ -28,9 +30,20 @@ pub record StandingState : Type 0 where
 abbrev pub stood : Stay → StandingState
 stood t = record { session = seen t.machine; pace = t.pace }
 
+-- What has a session that stays speak version 2.1 alone, so that no hello has it reopen its tables: it says that version in
+-- its own hello, and answers one of version 2.0 with 502.
+abbrev pub speaking_v21_in : Phase → Phase
+speaking_v21_in (phases.New hello c) = phases.New (record hello { version = versions.V21 }) c
+speaking_v21_in (phases.Hello (greeters.Connects version) bytes c) = phases.Hello (greeters.Connects versions.V21) bytes c
+speaking_v21_in (phases.Hello (greeters.Accepts own peers oldest) bytes c) = phases.Hello (greeters.Accepts own peers versions.V21) bytes c
+speaking_v21_in phase = phase
+
+abbrev pub speaking_v21 : SessionState → SessionState
+speaking_v21 s = in_phase s (speaking_v21_in s.phase)
+
 -- the session `s` begins to stay
 abbrev pub stays_from : ℕ → SessionState → StandingState
-stays_from now s = record { session = s; pace = pace_at now s.known.roster }
+stays_from now s = record { session = speaking_v21 s; pace = pace_at now s.known.roster }
 
 -- ---- what is heard and sent
 
@@ -194,7 +207,7 @@ leaving (table ∷ tables) c = finishing (without_tables (table ∷ tables) c)
 -- The remote peer may lack these tables, and have dropped the names that their batches wrote. So no name is known from then on.
 abbrev pub forgetting : List ℕ → SessionState → SessionState
 forgetting [] s = s
-forgetting (table ∷ tables) s = record { phase = s.phase; known = without_names s.known; fault = s.fault; confirmed = s.confirmed }
+forgetting (table ∷ tables) s = record s { known = without_names s.known }
 
 abbrev pub any_left : List ℕ → Bool
 any_left [] = false

@@ -5,6 +5,7 @@ ghost use Rattle.session_core.specs.declared.error.SessionError.TheVariants as e
 ghost use Rattle.session_core.specs.Shares.{out_set, quiet_set, unquieted};
 ghost use Rattle.session_core.specs.Actions.{reopens};
 ghost use Rattle.session_core.specs.Courses.{course_begun, teaching_anew, table_to_ask, is_due, none_due, Answered, finished, state_of_course};
+ghost use Rattle.session_core.specs.Sessions.{opening};
 
 use crate::action::{Action, push};
 use crate::controls::Controls;
@@ -17,7 +18,7 @@ use peers_msg::Control;
 use std::alloc::Global;
 use std::collections::VecDeque;
 use std::marker::Model;
-use table_types::{Memory, Roster};
+use table_types::{Memory, Roster, Version};
 
 /// The course of a session: what it received from the remote peer, and the state of its teaching.
 #[derive(Drop)]
@@ -135,6 +136,16 @@ impl Course {
             Control::ResyncFinished
         } else {
             Control::ResyncPartial
+        }
+    }
+
+    /// Appends what a session of `version` adds on becoming ready: with version 2.0, a `Reopen` for each table.
+    pub(crate) fn open(&self, version: Version, actions: &mut Vec<Action>) -> Result<(), Memory>
+        ensures { OnOk result (actions.new.items ≡ actions.old.items ++ opening version self.now.shares) }
+    {
+        match version {
+            Version::V20 => push_reopens(actions, self.shares.as_slice()),
+            Version::V21 => Ok(()),
         }
     }
 

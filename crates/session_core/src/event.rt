@@ -31,3 +31,6 @@ pub enum Event {
     /// The answer to `Ack`: the number is above every number that the table with this id taught.
     Refused(u64),
 }
+
+// An event moves from call to call, so it stays small: a known state keeps its slots on the heap.
+const _: () = prove!(size_of::<Event>() <= 64);

@@ -9,7 +9,7 @@ ghost use Rattle.session_core.specs.declared.action.Action.TheVariants as action
 ghost use Rattle.session_core.specs.declared.phase.Greeter.TheVariants as greeters;
 ghost use Rattle.session_core.specs.Actions.{status_text, sends_control};
 ghost use Rattle.session_core.specs.Courses.{Course};
-ghost use Rattle.session_core.specs.Sessions.{SessionState, Connects, Accepts, Greets, Follows, only_v21};
+ghost use Rattle.session_core.specs.Sessions.{SessionState, Connects, Accepts, Greets, Follows, answer_from, falls_back, only_v21};
 
 use crate::action::{Action, only, push};
 use crate::phase::Greeter;
@@ -20,6 +20,7 @@ use peers_msg::Control;
 use std::alloc::Global;
 use table_types::{Items, Memory, Name, Version};
 
+/// The status that answers a hello of a version that the peer doesn't speak.
 const BAD_VERSION: u16 = 502;
 
 /// What the received bytes of a hello or a status amount to.
@@ -31,11 +32,18 @@ pub(crate) enum Handshake {
     Accepted {
         /// The size of the hello or the status. Messages follow it.
         used: usize,
+        /// The version that both peers speak.
+        version: Version,
         /// The actions that answer it.
         answer: Vec<Action>,
     },
-    /// The handshake fails. These actions end the session.
-    Refused(Vec<Action>),
+    /// The handshake fails.
+    Refused {
+        /// The actions that end the session.
+        actions: Vec<Action>,
+        /// Whether the session falls back.
+        falls_back: bool,
+    },
 }
 
 /// Returns the bytes after the first `used`.
@@ -73,26 +81,46 @@ fn request(alloc: Global) -> Result<Vec<Action>, Memory>
     only_control(alloc, Control::ResyncRequest)
 }
 
-/// Reads the received bytes of the status that answers this node's hello.
-fn receive_status(alloc: Global, bytes: &[u8]) -> Result<Handshake, Memory>
-    ensures { IfOk result (λ handshake. (s : SessionState) (c : Course) (acts : List Action) (e : SessionState) → Follows handshake s greeters.Connects bytes.now c acts e → Connects (status_of bytes.now) s bytes.now c acts e) }
+/// Returns whether a session that said this version in its hello falls back at a status with `code`.
+fn falls_back(version: Version, code: u16) -> bool
+    ensures { result ≡ falls_back version code }
+{
+    match version {
+        Version::V20 => false,
+        Version::V21 => code == BAD_VERSION,
+    }
+}
+
+/// Reads the received bytes of the status that answers this node's hello, which said `version`.
+fn receive_status(alloc: Global, version: Version, bytes: &[u8]) -> Result<Handshake, Memory>
+    ensures { IfOk result (λ handshake. (s : SessionState) (c : Course) (acts : List Action) (e : SessionState) → Follows handshake s (greeters.Connects version) bytes.now c acts e → Connects version (status_of bytes.now) s bytes.now c acts e) }
 {
     match read_status(bytes) {
         Status::More => Ok(Handshake::Incomplete),
         Status::Code(code, used) => {
             if code == 200 {
                 let answer = request(alloc)?;
-                Ok(Handshake::Accepted { used, answer })
+                Ok(Handshake::Accepted {
+                    used,
+                    version,
+                    answer,
+                })
             } else {
-                Ok(Handshake::Refused(only(alloc, Action::Close)?))
+                Ok(Handshake::Refused {
+                    actions: only(alloc, Action::Close)?,
+                    falls_back: falls_back(version, code),
+                })
             }
         }
-        Status::Other(_) => Ok(Handshake::Refused(only(alloc, Action::Close)?)),
+        Status::Other(_) => Ok(Handshake::Refused {
+            actions: only(alloc, Action::Close)?,
+            falls_back: false,
+        }),
     }
 }
 
-/// Returns the answer to a hello of a peer that speaks version 2.1 alone, as a session does: one of version 2.0 is refused,
-/// as one of an unknown version.
+/// Returns the answer of a peer that speaks version 2.1 alone: it refuses a hello of version 2.0 with 502, as one of an
+/// unknown version.
 pub fn only_v21(answer: Answer) -> Answer
     ensures { result ≡ only_v21 answer }
 {
@@ -102,25 +130,44 @@ pub fn only_v21(answer: Answer) -> Answer
     }
 }
 
-/// Reads the received bytes of the remote peer's hello, which must name this node, `own`, and one of `peers`.
+/// Returns the answer of a peer that speaks version `oldest` and later.
+fn answer_from(oldest: Version, answer: Answer) -> Answer
+    ensures { result ≡ answer_from oldest answer }
+{
+    match oldest {
+        Version::V20 => answer,
+        Version::V21 => only_v21(answer),
+    }
+}
+
+/// Reads the received bytes of the remote peer's hello, which must name this node, `own`, and one of `peers`, and say version
+/// `oldest` or later.
 fn receive_hello(
     alloc: Global,
     own: &Name,
     peers: &[Name],
+    oldest: Version,
     bytes: &[u8],
 ) -> Result<Handshake, Memory>
-    ensures { IfOk result (λ handshake. (s : SessionState) (c : Course) (acts : List Action) (e : SessionState) → Follows handshake s (greeters.Accepts own.now peers.now) bytes.now c acts e → Accepts (only_v21 (answer_of own.now peers.now bytes.now)) s (greeters.Accepts own.now peers.now) bytes.now c acts e) }
+    ensures { IfOk result (λ handshake. (s : SessionState) (c : Course) (acts : List Action) (e : SessionState) → Follows handshake s (greeters.Accepts own.now peers.now oldest) bytes.now c acts e → Accepts (answer_from oldest (answer_of own.now peers.now bytes.now)) s (greeters.Accepts own.now peers.now oldest) bytes.now c acts e) }
 {
-    match only_v21(Hello::read(alloc, bytes, own, peers)?) {
+    match answer_from(oldest, Hello::read(alloc, bytes, own, peers)?) {
         Answer::More => Ok(Handshake::Incomplete),
-        Answer::Accepted(_, _, used) => {
+        Answer::Accepted(_, version, used) => {
             let answer = only(alloc, Action::Send(status_text(alloc, 200)?))?;
-            Ok(Handshake::Accepted { used, answer })
+            Ok(Handshake::Accepted {
+                used,
+                version,
+                answer,
+            })
         }
         Answer::Refused(code, _) => {
             let mut actions = only(alloc, Action::Send(status_text(alloc, code)?))?;
             push(&mut actions, Action::Close)?;
-            Ok(Handshake::Refused(actions))
+            Ok(Handshake::Refused {
+                actions,
+                falls_back: false,
+            })
         }
     }
 }
@@ -131,8 +178,10 @@ impl Greeter {
         ensures { IfOk result (λ handshake. (s : SessionState) (c : Course) (acts : List Action) (e : SessionState) → Follows handshake s self.now bytes.now c acts e → Greets s self.now bytes.now c acts e) }
     {
         match self {
-            Greeter::Connects => receive_status(alloc, bytes),
-            Greeter::Accepts { own, peers } => receive_hello(alloc, own, peers.as_slice(), bytes),
+            Greeter::Connects(version) => receive_status(alloc, *version, bytes),
+            Greeter::Accepts { own, peers, oldest } => {
+                receive_hello(alloc, own, peers.as_slice(), *oldest, bytes)
+            }
         }
     }
 }

@@ -7,14 +7,19 @@ ghost use Rattle.session_core.specs.declared.action.Action.{Action};
 ghost use Rattle.session_core.specs.declared.event.Event.{Event};
 ghost use Rattle.peers_msg.specs.Integers.{IsBytes};
 ghost use Rattle.peers_msg.specs.Decoding.{together};
+ghost use Rattle.table_types.specs.declared.version.Version.{Version};
+ghost use Rattle.peers_hello.specs.declared.hello.Hello.{Hello};
+ghost use Rattle.peers_hello.specs.Hellos.{answer_of};
+ghost use Rattle.peers_hello.specs.Meetings.{by_answer, by_status};
+ghost use Rattle.peers_hello.specs.Statuses.{status_of};
 ghost use Rattle.session_core.specs.declared.phase.Greeter.{Greeter};
 ghost use Rattle.session_core.specs.Phases as phases;
 ghost use Rattle.session_core.specs.Courses.{Course};
 ghost use Rattle.session_core.specs.Cutting.{AreFed, IsFedOut, without_acks};
 ghost use Rattle.session_core.specs.Hearing.{Hears, asked_in, heard_in, told};
 ghost use Rattle.session_core.specs.Standing.{is_open, is_reopen};
-ghost use Rattle.session_core.specs.Sessions.{SessionState, Goes, is_asked};
-ghost use Rattle.session_core.specs.Runs.{Runs, IsBegun, ends_resync, HasNothingLeft, HasNothingOut, HoldsBytes, BringsBytes, was_confirmed};
+ghost use Rattle.session_core.specs.Sessions.{SessionState, Goes, accepting_from, answer_from, connecting, is_asked};
+ghost use Rattle.session_core.specs.Runs.{Runs, IsBegun, ends_resync, falls_back_in, HasNothingLeft, HasNothingOut, HoldsBytes, BringsBytes, version_in, was_confirmed};
 
 /// A resync ends only once everything is taught. In every run from the beginning, at an event at which the session
 /// sends resync finished or resync partial, no batch is outstanding, and the last copy from each table belonged to that
@@ -30,6 +35,19 @@ pub fn resyncs_end_taught()
 /// An event that may not happen makes no step: no case of the machine fits it.
 pub fn unasked_is_no_step()
     ensures { (s e : SessionState) (event : Event) (acts : List Action) → Goes s event acts e → is_asked s.phase event ≡ true }
+{}
+
+/// The hello decides once and for all which version a session speaks, and whether it falls back. In every run from the beginning, the
+/// version is that of the hello, once the bytes received complete it, or the status that answers it, and it isn't refused; and
+/// `None` before, and if it is refused. A session falls back exactly if its own hello said version 2.1 and they complete status 502.
+pub fn the_hello_decides()
+    ensures connects { (hello : Hello) (roster : List Definition) (up_to_date : Bool) (s : SessionState) (steps : List (Event × List Action)) →
+        Runs (connecting hello roster up_to_date) steps s →
+        (s.version ≡ version_in (by_status hello.version (status_of (heard_in steps)) (heard_in steps)))
+        × (s.fell_back ≡ falls_back_in hello.version (by_status hello.version (status_of (heard_in steps)) (heard_in steps))) }
+    ensures accepts { (oldest : Version) (own : List ℕ) (peers : List (List ℕ)) (roster : List Definition) (up_to_date : Bool) (s : SessionState) (steps : List (Event × List Action)) →
+        Runs (accepting_from oldest own peers roster up_to_date) steps s →
+        (s.version ≡ version_in (by_answer (answer_from oldest (answer_of own peers (heard_in steps))) (heard_in steps))) × (s.fell_back ≡ false) }
 {}
 
 /// A session says that it confirmed a resync exactly if it asked to send resync confirmed somewhere in its run.

@@ -11,6 +11,7 @@ ghost use Rattle.session_core.specs.Phases as phases;
 ghost use Rattle.session_core.specs.declared.phase.Stage.TheVariants as stages;
 ghost use Rattle.session_core.specs.Courses.{course_fed, none_due, acks_sent, acks_given};
 ghost use Rattle.session_core.specs.Sessions.{Goes, GoesOpen, Keeps, Concludes, Refuses, IsWhy, is_asked_open, phase_of, seen, going, kind_of_fault, state_of};
+ghost use Rattle.session_core.specs.Standing.{speaking_v21};
 
 use crate::action::{Action, confirms, only, push};
 use crate::course::Course;
@@ -25,7 +26,7 @@ use known_state::Known;
 use learner::Fault;
 use peers_msg::{Breach, ErrorKind};
 use std::alloc::Global;
-use table_types::Memory;
+use table_types::{Memory, Version};
 
 /// A session as its steps change it. The course stays in place through all stages.
 #[derive(Drop)]
@@ -38,6 +39,10 @@ pub(crate) struct Machine {
     pub(crate) fault: Option<Fault>,
     /// Whether the session asked to send resync confirmed.
     pub(crate) confirmed: bool,
+    /// The version that both peers speak, once the hello is done.
+    pub(crate) version: Option<Version>,
+    /// Whether status 502 ended the session, which had said version 2.1.
+    pub(crate) fell_back: bool,
 }
 
 /// Returns the error message that answers a fault.
@@ -77,7 +82,8 @@ impl Machine {
             Stage::New(hello) => match event {
                 Event::Opened => {
                     let actions = greeting(alloc, hello)?;
-                    self.stage = Stage::Hello(Greeter::Connects, Vec::new(alloc));
+                    let greeter = Greeter::Connects(hello.version);
+                    self.stage = Stage::Hello(greeter, Vec::new(alloc));
                     Ok(actions)
                 }
                 Event::Turn => Ok(Vec::new(alloc)),
@@ -91,14 +97,23 @@ impl Machine {
                         .map_err(Memory::from)?;
                     match greeter.receive(alloc, bytes.as_slice())? {
                         Handshake::Incomplete => Ok(Vec::new(alloc)),
-                        Handshake::Accepted { used, answer } => {
+                        Handshake::Accepted {
+                            used,
+                            version,
+                            answer,
+                        } => {
                             let mut actions = answer;
+                            self.course.open(version, &mut actions)?;
                             let rest = after(bytes.as_slice(), used);
                             let received = self.course.receive_bytes(alloc, rest, &mut actions);
-                            self.conclude(alloc, received, &mut actions)?;
+                            self.conclude(alloc, Some(version), received, &mut actions)?;
                             Ok(actions)
                         }
-                        Handshake::Refused(actions) => {
+                        Handshake::Refused {
+                            actions,
+                            falls_back,
+                        } => {
+                            self.fell_back = falls_back || self.fell_back;
                             self.stage = Stage::Ended;
                             Ok(actions)
                         }
@@ -151,18 +166,20 @@ impl Machine {
         }
         let mut actions = Vec::new(alloc);
         let received = self.course.receive_bytes(alloc, bytes, &mut actions);
-        self.conclude(alloc, received, &mut actions)?;
+        self.conclude(alloc, self.version, received, &mut actions)?;
         Ok(actions)
     }
 
-    /// Follows up the received messages: appends the acknowledgements that are due, or what ends a halted session.
+    /// Follows up the received messages: appends the acknowledgements that are due, or what ends a halted session. Both peers
+    /// speak `version`.
     fn conclude(
         &mut self,
         alloc: Global,
+        version: Option<Version>,
         received: Result<(), Halt>,
         actions: &mut Vec<Action>,
     ) -> Result<(), Memory>
-        ensures goes { OnOk result (Concludes (seen self.old) self.old.course received actions.old.items actions.new.items (seen self.new)) }
+        ensures goes { OnOk result (Concludes (record (seen self.old) { version = version }) self.old.course received actions.old.items actions.new.items (seen self.new)) }
         ensures memory { OnOk result (received ≢ Err halts.Memory) }
         ensures kept { OnErr result (Keeps self.old self.new) }
     {
@@ -183,7 +200,20 @@ impl Machine {
             Err(Halt::Memory) => return Err(Memory),
         }
         self.confirmed = self.confirmed || confirms(actions.as_slice());
+        self.version = version;
         Ok(())
+    }
+
+    /// Has the session speak version 2.1 alone from now on, if its hello isn't done yet.
+    pub(crate) fn speak_v21(&mut self)
+        ensures { seen self.new ≡ speaking_v21 (seen self.old) }
+    {
+        match &mut self.stage {
+            Stage::New(hello) => hello.version = Version::V21,
+            Stage::Hello(Greeter::Connects(version), _) => *version = Version::V21,
+            Stage::Hello(Greeter::Accepts { oldest, .. }, _) => *oldest = Version::V21,
+            Stage::Open | Stage::Ended => {}
+        }
     }
 
     /// Ends the session, and returns the action that closes the connection.

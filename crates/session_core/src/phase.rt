@@ -1,19 +1,21 @@
 //! The stages of a session.
 
 use peers_hello::Hello;
-use table_types::{Items, Name};
+use table_types::{Items, Name, Version};
 
 /// Which side of the handshake this node takes.
 #[derive(Debug, Drop)]
 pub(crate) enum Greeter {
-    /// This node opened the connection: it sent its hello and awaits the status.
-    Connects,
+    /// This node opened the connection: it sent its hello, which said this version, and awaits the status.
+    Connects(Version),
     /// The remote peer opened the connection: this node awaits its hello.
     Accepts {
         /// This node's own name.
         own: Name,
         /// The peers that this node accepts.
         peers: Items<Name>,
+        /// The oldest version that this node accepts.
+        oldest: Version,
     },
 }
 

@@ -17,7 +17,7 @@ use learner::Fault;
 use peers_hello::Hello;
 use std::alloc::Global;
 use std::marker::Model;
-use table_types::{Items, Memory, Moment, Name, Roster};
+use table_types::{Items, Memory, Moment, Name, Roster, Version};
 
 /// A session between this node and another peer (HAProxy, doc/peers-v2.0.txt). It does no I/O itself: at each event it
 /// returns the actions that its caller performs, in order.
@@ -68,6 +68,8 @@ impl Session {
                 known,
                 fault: None,
                 confirmed: false,
+                version: None,
+                fell_back: false,
             },
         })
     }
@@ -85,15 +87,21 @@ impl Session {
     {
         let course = Course::new(alloc, roster.copy(alloc)?, up_to_date)?;
         let known = Known::fresh(alloc, roster)?;
-        let peers = Items::new(peers);
+        let greeter = Greeter::Accepts {
+            own,
+            peers: Items::new(peers),
+            oldest: Version::V20,
+        };
         Ok(Session {
             alloc,
             machine: Machine {
-                stage: Stage::Hello(Greeter::Accepts { own, peers }, Vec::new(alloc)),
+                stage: Stage::Hello(greeter, Vec::new(alloc)),
                 course,
                 known,
                 fault: None,
                 confirmed: false,
+                version: None,
+                fell_back: false,
             },
         })
     }
@@ -135,11 +143,26 @@ impl Session {
         self.machine.confirmed
     }
 
+    /// Returns the version that both peers speak, as the hello says. It is `None` until the hello is done, and for ever if the
+    /// hello is refused.
+    pub fn version(&self) -> Option<Version>
+        ensures { result ≡ self.now.version }
+    {
+        self.machine.version
+    }
+
+    /// Returns whether the session fell back: its own hello said version 2.1, and the remote peer answered with status 502.
+    pub fn fell_back(&self) -> bool
+        ensures { result ≡ self.now.fell_back }
+    {
+        self.machine.fell_back
+    }
+
     /// Returns the actions to perform at `event`, in order. The moment makes no difference.
     ///
     /// Refuses with `Ended` if the session was over, with `Unasked` if the event can't happen in its state, and with
-    /// `Memory` if memory runs out. The session is then over and returns no action; `known`, `fault` and `confirmed`
-    /// stay as they were.
+    /// `Memory` if memory runs out. The session is then over and returns no action; all else that can be read of it stays
+    /// as it was.
     pub fn on(&mut self, event: Event, _now: Moment) -> Result<Vec<Action>, SessionError>
         ensures goes { IfOk result (λ acts. Goes self.old event acts.items self.new) }
         ensures refused { IfErr result (λ e. Refuses self.old.phase event e) }

@@ -20,7 +20,7 @@ use known_state::Known;
 use learner::Fault;
 use std::alloc::Global;
 use std::marker::Model;
-use table_types::{Memory, Moment};
+use table_types::{Memory, Moment, Version};
 
 /// A session that stays for as long as its connection does (HAProxy, doc/peers-v2.0.txt). It hands each event on to the
 /// session itself, and adds what depends on the clock:
@@ -36,6 +36,7 @@ use table_types::{Memory, Moment};
 ///   connection, which ends the session.
 /// - It begins a requested resync at a turn, and not within a second of the one before. It pushes nothing in the first
 ///   300 ms.
+/// - It speaks version 2.1 alone: its own hello says so, and it answers a hello of version 2.0 with 502.
 ///
 /// Its caller answers its actions as it would those of a `Session`. The moments of all calls are of one clock.
 #[derive(Drop)]
@@ -53,13 +54,14 @@ impl Model for Standing {
 }
 
 impl Standing {
-    /// Makes `session` one that stays, from `now` on. Fails with `Memory` if memory runs out. The laws about sessions that
-    /// stay speak of one that was new.
+    /// Makes `session` one that stays, from `now` on, and that speaks version 2.1 alone if its hello isn't done yet. Fails with
+    /// `Memory` if memory runs out. The laws about sessions that stay speak of one that was new.
     pub fn new(alloc: Global, session: Session, now: Moment) -> Result<Standing, Memory>
         ensures { IfOk result (λ standing. standing ≡ stays_from now session) }
     {
         let pace = Pace::new(alloc, session.known().roster(), now.milliseconds())?;
-        let machine = session.into_machine();
+        let mut machine = session.into_machine();
+        machine.speak_v21();
         Ok(Standing {
             alloc,
             stay: Stay { machine, pace },
@@ -92,6 +94,13 @@ impl Standing {
         ensures { result ≡ self.now.session.confirmed }
     {
         self.stay.machine.confirmed
+    }
+
+    /// Returns the version that both peers speak. It is `None` until the hello is done, and for ever if the hello is refused.
+    pub fn version(&self) -> Option<Version>
+        ensures { result ≡ self.now.session.version }
+    {
+        self.stay.machine.version
     }
 
     /// Returns how often the remote peer has sent each control message. No contract says what is counted.

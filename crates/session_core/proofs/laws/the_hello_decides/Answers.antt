@@ -1,0 +1,8 @@
+use Rattle.session_core.proofs.HelloDecides.{decided_by_answer, decided_by_status}
+use Rattle.session_core.proofs.laws.the_hello_decides.Goals as goal
+
+pub returns-clause-connects : goal.returns-clause-connects
+returns-clause-connects c = decided_by_status
+
+pub returns-clause-accepts : goal.returns-clause-accepts
+returns-clause-accepts c = decided_by_answer
