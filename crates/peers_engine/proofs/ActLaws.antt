@@ -34,7 +34,7 @@ acts_on s mid e (act ∷ acts) after answers more out rest (bytes, then, answer,
 
 -- one action, and its answer received
 pub one_act : (s : Worker) (e : SessionState) (seat : SeatState) (act : Action) (answer : Option Event) (steps : List (Event × List Action)) (bytes : List ℕ)
-    → Done s.number s.now s.session.known s.seat act bytes answer seat → IsGiven s.session answer steps e → Acts s (act ∷ []) steps bytes (stands s e seat)
+    → Done s.number s.now s.session s.seat act bytes answer seat → IsGiven s.session answer steps e → Acts s (act ∷ []) steps bytes (stands s e seat)
 one_act s e seat act answer steps bytes done answers =
     (bytes, [], answer, steps, [], seat, e, done, answers, (refl, refl, refl), sym (append-nil steps), sym (append-nil bytes))
 

@@ -122,27 +122,27 @@ is_last None = true
 is_last (Some (events.Written known)) = true
 is_last (Some event) = false
 
-pub done_answered : (n now : ℕ) (k : KnownState) (s t : SeatState) (act : Action) (out : List ℕ) (answer : Option Event) → Done n now k s act out answer t → is_answered answer ≡ true
-done_answered n now k s t (actions.Send bytes) out answer (written, none, same) = ap is_answered none
-done_answered n now k s t (actions.Learn u) out answer (written, none, learned) = ap is_answered none
-done_answered n now k s t (actions.Ack table number) out answer (none, inl (settled, is, call)) = ap is_answered is
-done_answered n now k s t (actions.Ack table number) out answer (none, inr (is, call)) = ap is_answered is
-done_answered n now k s t (actions.Reopen table) out answer (written, none, reopened) = ap is_answered none
-done_answered n now k s t (actions.Copy table kind) out answer (none, inl (batch, is, call)) = ap is_answered is
-done_answered n now k s t (actions.Copy table kind) out answer (none, inr (is, call)) = ap is_answered is
-done_answered n now k s t (actions.Teach batch) out answer (after, lesson, is, settled) = ap is_answered is
-done_answered n now k s t (actions.Part kind) out answer (written, none, same) = ap is_answered none
-done_answered n now k s t actions.Close out answer (written, none, same) = ap is_answered none
+pub done_answered : (n now : ℕ) (x : SessionState) (s t : SeatState) (act : Action) (out : List ℕ) (answer : Option Event) → Done n now x s act out answer t → is_answered answer ≡ true
+done_answered n now x s t (actions.Send bytes) out answer (written, none, same) = ap is_answered none
+done_answered n now x s t (actions.Learn u) out answer (written, none, learned) = ap is_answered none
+done_answered n now x s t (actions.Ack table number) out answer (none, inl (settled, is, call)) = ap is_answered is
+done_answered n now x s t (actions.Ack table number) out answer (none, inr (is, call)) = ap is_answered is
+done_answered n now x s t (actions.Reopen table) out answer (written, none, reopened) = ap is_answered none
+done_answered n now x s t (actions.Copy table kind) out answer (none, inl (batch, is, call)) = ap is_answered is
+done_answered n now x s t (actions.Copy table kind) out answer (none, inr (is, call)) = ap is_answered is
+done_answered n now x s t (actions.Teach batch) out answer (after, lesson, is, settled) = ap is_answered is
+done_answered n now x s t (actions.Part kind) out answer (written, none, same) = ap is_answered none
+done_answered n now x s t actions.Close out answer (written, none, same) = ap is_answered none
 
-done_last : (n now : ℕ) (k : KnownState) (s t : SeatState) (act : Action) (out : List ℕ) (answer : Option Event) → is_calm act ≡ true → Done n now k s act out answer t → is_last answer ≡ true
-done_last n now k s t (actions.Send bytes) out answer calm (written, none, same) = ap is_last none
-done_last n now k s t (actions.Learn u) out answer calm (written, none, learned) = ap is_last none
-done_last n now k s t (actions.Ack table number) out answer calm done = absurd (false≢true calm)
-done_last n now k s t (actions.Reopen table) out answer calm (written, none, reopened) = ap is_last none
-done_last n now k s t (actions.Copy table kind) out answer calm done = absurd (false≢true calm)
-done_last n now k s t (actions.Teach batch) out answer calm (after, lesson, is, settled) = ap is_last is
-done_last n now k s t (actions.Part kind) out answer calm (written, none, same) = ap is_last none
-done_last n now k s t actions.Close out answer calm (written, none, same) = ap is_last none
+done_last : (n now : ℕ) (x : SessionState) (s t : SeatState) (act : Action) (out : List ℕ) (answer : Option Event) → is_calm act ≡ true → Done n now x s act out answer t → is_last answer ≡ true
+done_last n now x s t (actions.Send bytes) out answer calm (written, none, same) = ap is_last none
+done_last n now x s t (actions.Learn u) out answer calm (written, none, learned) = ap is_last none
+done_last n now x s t (actions.Ack table number) out answer calm done = absurd (false≢true calm)
+done_last n now x s t (actions.Reopen table) out answer calm (written, none, reopened) = ap is_last none
+done_last n now x s t (actions.Copy table kind) out answer calm done = absurd (false≢true calm)
+done_last n now x s t (actions.Teach batch) out answer calm (after, lesson, is, settled) = ap is_last is
+done_last n now x s t (actions.Part kind) out answer calm (written, none, same) = ap is_last none
+done_last n now x s t actions.Close out answer calm (written, none, same) = ap is_last none
 
 -- ---- what the session asks for when it receives them
 
@@ -172,7 +172,7 @@ acts_calm s e (act ∷ acts) answers out (bytes, more, answer, first, rest, seat
     ap (λ (x : List (Event × List Action)). are_calm (asked x)) is
     ∙ (ap are_calm (flat_map-append (λ (step : Event × List Action). step.1) first rest)
     ∙ (list_all-append is_calm (asked first) (asked rest)
-    ∙ and_from _ _ (given_calm s.session mid answer first (done_answered s.number s.now s.session.known s.seat seat act bytes answer done) gives)
+    ∙ and_from _ _ (given_calm s.session mid answer first (done_answered s.number s.now s.session s.seat seat act bytes answer done) gives)
     (acts_calm (stands s mid seat) e acts rest more after)))
 
 one_last : (s e : SessionState) (known : KnownState) (steps : List (Event × List Action)) → ((acts : List Action) × Goes s (events.Written known) acts e × (steps ≡ (events.Written known, acts) ∷ [])) → asked steps ≡ []
@@ -206,5 +206,5 @@ acts_last s e (act ∷ acts) answers out calm (bytes, more, answer, first, rest,
     let both = and_parts (is_calm act) (are_calm acts) calm in
     ap asked is
     ∙ (flat_map-append (λ (step : Event × List Action). step.1) first rest
-    ∙ (ap (λ (x : List Action). x ++ asked rest) (given_last s.session mid answer first (done_last s.number s.now s.session.known s.seat seat act bytes answer both.0 done) gives)
+    ∙ (ap (λ (x : List Action). x ++ asked rest) (given_last s.session mid answer first (done_last s.number s.now s.session s.seat seat act bytes answer both.0 done) gives)
     ∙ acts_last (stands s mid seat) e acts rest more both.1 after))

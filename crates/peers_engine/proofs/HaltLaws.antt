@@ -6,7 +6,6 @@ use Rattle.std.proofs.lemmas.Bool.{false≢true, and_parts}
 use Rattle.std.specs.Prelude.{◌≢◌}
 use Rattle.std.specs.List.{list_all}
 use Rattle.table_shards.specs.Receipts.{SeatState}
-use Rattle.known_state.specs.Known.{KnownState}
 use Rattle.table_types.specs.declared.copies.CopyKind.TheVariants as copies
 use Rattle.session_core.specs.declared.action.Action.{Action}
 use Rattle.session_core.specs.declared.action.Action.TheVariants as actions
@@ -31,14 +30,14 @@ asked_on first rest = flat_map-append (λ (step : Event × List Action). step.1)
 
 -- one more action is performed
 pub act_more : (s mid : Worker) (e : SessionState) (seat : SeatState) (acts : List Action) (act : Action) (answer : Option Event) (answers steps : List (Event × List Action)) (out bytes : List ℕ)
-    → Acts s acts answers out mid → Done mid.number mid.now mid.session.known mid.seat act bytes answer seat → IsGiven mid.session answer steps e
+    → Acts s acts answers out mid → Done mid.number mid.now mid.session mid.seat act bytes answer seat → IsGiven mid.session answer steps e
     → Acts s (acts ++ (act ∷ [])) (answers ++ steps) (out ++ bytes) (stands mid e seat)
 act_more s mid e seat acts act answer answers steps out bytes acted done gives =
     acts_on s mid (stands mid e seat) acts (act ∷ []) answers steps out bytes acted (one_act mid e seat act answer steps bytes done gives)
 
 -- an action failed
 pub act_stops : (s mid : Worker) (seat : SeatState) (all before rest : List Action) (act : Action) (error : EngineError) (answers : List (Event × List Action)) (first last : List ℕ)
-    → all ≡ before ++ (act ∷ rest) → Acts s before answers first mid → Fails mid.number mid.now mid.session.known mid.seat act error last seat
+    → all ≡ before ++ (act ∷ rest) → Acts s before answers first mid → Fails mid.number mid.now mid.session mid.seat act error last seat
     → Stops s all error answers (first ++ last) mid.session seat
 act_stops s mid seat all before rest act error answers first last is acted fails =
     (before, act ∷ rest, first, last, mid, is, acted, inl (inl fails), refl, refl)
@@ -49,11 +48,11 @@ more_answers (one ∷ answers) step is = cc is
 
 -- an action succeeded, and its answer was refused, or memory ran out for what it asks for
 pub give_stops : (s mid : Worker) (e : SessionState) (seat : SeatState) (all before rest : List Action) (act : Action) (answer : Option Event) (event : Event) (error : EngineError) (answers : List (Event × List Action)) (first bytes : List ℕ)
-    → all ≡ before ++ (act ∷ rest) → Acts s before answers first mid → Done mid.number mid.now mid.session.known mid.seat act bytes answer seat → answer ≡ Some event
+    → all ≡ before ++ (act ∷ rest) → Acts s before answers first mid → Done mid.number mid.now mid.session mid.seat act bytes answer seat → answer ≡ Some event
     → state_of mid.session.phase ≢ states.Ended → DoesNotGoOn mid.session event error e
     → (answers' : List (Event × List Action)) × Stops s all error answers' (first ++ bytes) e seat
 give_stops s mid e seat all before rest act answer event error answers first bytes is acted done some going (inl (refused, over)) =
-    let answered = subst (λ (x : Option Event). Done mid.number mid.now mid.session.known mid.seat act bytes x seat) some done in
+    let answered = subst (λ (x : Option Event). Done mid.number mid.now mid.session mid.seat act bytes x seat) some done in
     (answers, (before, act ∷ rest, first, bytes, mid, is, acted, inl (inr (event, answered, going, refused)), refl, ap ended over))
 give_stops s mid e seat all before rest act answer event error answers first bytes is acted done some going (inr (acts, goes, memory)) =
     let rejoined : all ≡ (before ++ (act ∷ [])) ++ rest = is ∙ sym (append_assoc before (act ∷ []) rest) in
@@ -181,24 +180,24 @@ halted {untouched} s e new seat received error out halts is = subst (λ (x : Ses
 -- ---- nothing to do
 
 -- pushes write nothing
-push_silent : (n now : ℕ) (k : KnownState) (s t : SeatState) (act : Action) (out : List ℕ) (answer : Option Event) → is_push act ≡ true → Done n now k s act out answer t → out ≡ []
-push_silent n now k s t (actions.Copy table copies.Push) out answer is done = done.0
-push_silent n now k s t (actions.Copy table copies.Resync) out answer is done = done.0
-push_silent n now k s t (actions.Copy table copies.Standing) out answer is done = done.0
-push_silent n now k s t (actions.Send bytes) out answer is done = absurd (false≢true is)
-push_silent n now k s t (actions.Learn u) out answer is done = absurd (false≢true is)
-push_silent n now k s t (actions.Ack table number) out answer is done = absurd (false≢true is)
-push_silent n now k s t (actions.Reopen table) out answer is done = absurd (false≢true is)
-push_silent n now k s t (actions.Teach batch) out answer is done = absurd (false≢true is)
-push_silent n now k s t (actions.Part kind) out answer is done = absurd (false≢true is)
-push_silent n now k s t actions.Close out answer is done = absurd (false≢true is)
+push_silent : (n now : ℕ) (x : SessionState) (s t : SeatState) (act : Action) (out : List ℕ) (answer : Option Event) → is_push act ≡ true → Done n now x s act out answer t → out ≡ []
+push_silent n now x s t (actions.Copy table copies.Push) out answer is done = done.0
+push_silent n now x s t (actions.Copy table copies.Resync) out answer is done = done.0
+push_silent n now x s t (actions.Copy table copies.Standing) out answer is done = done.0
+push_silent n now x s t (actions.Send bytes) out answer is done = absurd (false≢true is)
+push_silent n now x s t (actions.Learn u) out answer is done = absurd (false≢true is)
+push_silent n now x s t (actions.Ack table number) out answer is done = absurd (false≢true is)
+push_silent n now x s t (actions.Reopen table) out answer is done = absurd (false≢true is)
+push_silent n now x s t (actions.Teach batch) out answer is done = absurd (false≢true is)
+push_silent n now x s t (actions.Part kind) out answer is done = absurd (false≢true is)
+push_silent n now x s t actions.Close out answer is done = absurd (false≢true is)
 
 pushes_silent : (s e : Worker) (acts : List Action) (answers : List (Event × List Action)) (out : List ℕ) → list_all is_push acts ≡ true → Acts s acts answers out e → out ≡ []
 pushes_silent s e [] answers out are (none, nothing, same) = nothing
 pushes_silent s e (act ∷ acts) answers out are (bytes, more, answer, first, rest, seat, mid, done, gives, after, is, written) =
     let both = and_parts (is_push act) (list_all is_push acts) are in
     written
-    ∙ (ap (λ (x : List ℕ). x ++ more) (push_silent s.number s.now s.session.known s.seat seat act bytes answer both.0 done)
+    ∙ (ap (λ (x : List ℕ). x ++ more) (push_silent s.number s.now s.session s.seat seat act bytes answer both.0 done)
     ∙ pushes_silent (stands s mid seat) e acts rest more both.1 after)
 
 none_done : (s e : Worker) (acts : List Action) (answers : List (Event × List Action)) (out : List ℕ) → acts ≡ [] → Acts s acts answers out e → (out ≡ []) × (e ≡ s)

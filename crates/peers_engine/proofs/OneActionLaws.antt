@@ -25,13 +25,13 @@ IsOne w act given more e old new =
 
 -- it has no answer
 pub silently_done : (w : Worker) (seat : SeatState) (act : Action) (given : List Action) (old new : Option (List ℕ))
-    → OneDone w.number w.now w.session.known w.seat seat act old new None → IsOne w act given given (stands w w.session seat) old new
+    → OneDone w.number w.now w.session w.seat seat act old new None → IsOne w act given given (stands w w.session seat) old new
 silently_done w seat act given old new (out, done, appended) =
     ([], out, one_act w w.session seat act None [] out done (refl, refl), sym (append-nil given), appended)
 
 -- its answer is received
 pub answered : (w : Worker) (e : SessionState) (seat : SeatState) (act : Action) (answer : Event) (given more : List Action) (old new : Option (List ℕ))
-    → OneDone w.number w.now w.session.known w.seat seat act old new (Some answer)
+    → OneDone w.number w.now w.session w.seat seat act old new (Some answer)
     → ((steps : List (Event × List Action)) × IsGiven w.session (Some answer) steps e × (more ≡ given ++ asked steps))
     → IsOne w act given more (stands w e seat) old new
 answered w e seat act answer given more old new (out, done, appended) (steps, gives, kept) =
@@ -42,17 +42,17 @@ nothing_done w old = ([], [], (refl, refl, refl), refl, Appends-nil old)
 
 -- it fails
 pub fails_alone : (w : Worker) (seat : SeatState) (act : Action) (error : EngineError) (old new : Option (List ℕ))
-    → OneFails w.number w.now w.session.known w.seat seat act old new error → AreStopped w (act ∷ []) error w.session seat old new
+    → OneFails w.number w.now w.session w.seat seat act old new error → AreStopped w (act ∷ []) error w.session seat old new
 fails_alone w seat act error old new fails =
-    next_fails w w seat w.session.known (act ∷ []) [] [] [] act error old old new refl refl (nothing_done w old) fails
+    next_fails w w seat w.session (act ∷ []) [] [] [] act error old old new refl refl (nothing_done w old) fails
 
 -- the session doesn't go on after its answer
 pub unanswered : (w : Worker) (e : SessionState) (seat : SeatState) (act : Action) (answer : Event) (error : EngineError) (old new : Option (List ℕ))
-    → OneDone w.number w.now w.session.known w.seat seat act old new (Some answer)
+    → OneDone w.number w.now w.session w.seat seat act old new (Some answer)
     → (state_of w.session.phase ≢ states.Ended) × DoesNotGoOn w.session answer error e
     → AreStopped w (act ∷ []) error e seat old new
 unanswered w e seat act answer error old new done (going, stuck) =
-    give_fails w w e seat w.session.known (act ∷ []) [] [] [] act (Some answer) error old old new refl refl (nothing_done w old) done (answer, refl, going, stuck)
+    give_fails w w e seat w.session (act ∷ []) [] [] [] act (Some answer) error old old new refl refl (nothing_done w old) done (answer, refl, going, stuck)
 
 -- ---- after others
 

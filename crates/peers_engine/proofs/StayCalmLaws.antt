@@ -437,23 +437,23 @@ told_light s now (Some (events.Copied table batch)) steps e late told = absurd (
 -- ---- which answers come
 
 -- a call at the later moment is one at some moment
-learned_done : (n now : ℕ) (k : KnownState) (s t : SeatState) (u : Update) (out : List ℕ) (answer : Option Event) → out ≡ [] → answer ≡ None → IsLearnedLate n now s u t
-    → (at : ℕ) × Done n at k s (actions.Learn u) out answer t
-learned_done n now k s t u out answer written none (c, at, is, learned) = (at, (written, none, (c, learned)))
+learned_done : (n now : ℕ) (x : SessionState) (s t : SeatState) (u : Update) (out : List ℕ) (answer : Option Event) → out ≡ [] → answer ≡ None → IsLearnedLate n now s u t
+    → (at : ℕ) × Done n at x s (actions.Learn u) out answer t
+learned_done n now x s t u out answer written none (c, at, is, learned) = (at, (written, none, (c, learned)))
 
-copied_done : (n now : ℕ) (k : KnownState) (s t : SeatState) (table : ℕ) (kind : CopyKind) (out : List ℕ) (answer : Option Event) (event : Event) → out ≡ [] → answer ≡ Some event
-    → IsCopiedLate n now s table kind t event → (at : ℕ) × Done n at k s (actions.Copy table kind) out answer t
-copied_done n now k s t table kind out answer event written some (c, at, is, inl (batch, copied, call)) =
+copied_done : (n now : ℕ) (x : SessionState) (s t : SeatState) (table : ℕ) (kind : CopyKind) (out : List ℕ) (answer : Option Event) (event : Event) → out ≡ [] → answer ≡ Some event
+    → IsCopiedLate n now s table kind t event → (at : ℕ) × Done n at x s (actions.Copy table kind) out answer t
+copied_done n now x s t table kind out answer event written some (c, at, is, inl (batch, copied, call)) =
     (at, (written, inl (batch, some ∙ ap (λ (x : Event). Some x) copied, (c, call))))
-copied_done n now k s t table kind out answer event written some (c, at, is, inr (nothing, call)) =
+copied_done n now x s t table kind out answer event written some (c, at, is, inr (nothing, call)) =
     (at, (written, inr (some ∙ ap (λ (x : Event). Some x) nothing, (c, call))))
 
 -- what is performed is done at some moment
 done_at : (w : StandingWorker) (seat : SeatState) (act : Action) (out : List ℕ) (answer : Option Event) → IsPerformed w act out answer seat
-    → (at : ℕ) × Done w.number at w.session.session.known w.seat (as_standing act) out answer seat
-done_at w seat (actions.Learn u) out answer (written, none, learned) = learned_done w.number w.now w.session.session.known w.seat seat u out answer written none learned
+    → (at : ℕ) × Done w.number at w.session.session w.seat (as_standing act) out answer seat
+done_at w seat (actions.Learn u) out answer (written, none, learned) = learned_done w.number w.now w.session.session w.seat seat u out answer written none learned
 done_at w seat (actions.Copy table kind) out answer (written, event, some, copied) =
-    copied_done w.number w.now w.session.session.known w.seat seat table (standing_kind kind) out answer event written some copied
+    copied_done w.number w.now w.session.session w.seat seat table (standing_kind kind) out answer event written some copied
 done_at w seat (actions.Send bytes) out answer done = (w.now, done)
 done_at w seat (actions.Ack table number) out answer done = (w.now, done)
 done_at w seat (actions.Reopen table) out answer done = (w.now, done)
@@ -461,26 +461,26 @@ done_at w seat (actions.Teach batch) out answer done = (w.now, done)
 done_at w seat (actions.Part kind) out answer done = (w.now, done)
 done_at w seat actions.Close out answer done = (w.now, done)
 
-mute_done : (n at : ℕ) (k : KnownState) (s t : SeatState) (act : Action) (out : List ℕ) (answer : Option Event) → is_mute act ≡ true → Done n at k s (as_standing act) out answer t → answer ≡ None
-mute_done n at k s t (actions.Send bytes) out answer mute (written, none, same) = none
-mute_done n at k s t (actions.Learn u) out answer mute (written, none, learned) = none
-mute_done n at k s t (actions.Reopen table) out answer mute (written, none, reopened) = none
-mute_done n at k s t (actions.Part kind) out answer mute (written, none, same) = none
-mute_done n at k s t actions.Close out answer mute (written, none, same) = none
-mute_done n at k s t (actions.Ack table number) out answer mute done = absurd (false≢true mute)
-mute_done n at k s t (actions.Copy table kind) out answer mute done = absurd (false≢true mute)
-mute_done n at k s t (actions.Teach batch) out answer mute done = absurd (false≢true mute)
+mute_done : (n at : ℕ) (x : SessionState) (s t : SeatState) (act : Action) (out : List ℕ) (answer : Option Event) → is_mute act ≡ true → Done n at x s (as_standing act) out answer t → answer ≡ None
+mute_done n at x s t (actions.Send bytes) out answer mute (written, none, same) = none
+mute_done n at x s t (actions.Learn u) out answer mute (written, none, learned) = none
+mute_done n at x s t (actions.Reopen table) out answer mute (written, none, reopened) = none
+mute_done n at x s t (actions.Part kind) out answer mute (written, none, same) = none
+mute_done n at x s t actions.Close out answer mute (written, none, same) = none
+mute_done n at x s t (actions.Ack table number) out answer mute done = absurd (false≢true mute)
+mute_done n at x s t (actions.Copy table kind) out answer mute done = absurd (false≢true mute)
+mute_done n at x s t (actions.Teach batch) out answer mute done = absurd (false≢true mute)
 
-light_done : (n at : ℕ) (k : KnownState) (s t : SeatState) (act : Action) (out : List ℕ) (answer : Option Event) → is_light act ≡ true → Done n at k s (as_standing act) out answer t → is_mild_answer answer ≡ true
-light_done n at k s t (actions.Send bytes) out answer light (written, none, same) = ap is_mild_answer none
-light_done n at k s t (actions.Learn u) out answer light (written, none, learned) = ap is_mild_answer none
-light_done n at k s t (actions.Reopen table) out answer light (written, none, reopened) = ap is_mild_answer none
-light_done n at k s t (actions.Part kind) out answer light (written, none, same) = ap is_mild_answer none
-light_done n at k s t actions.Close out answer light (written, none, same) = ap is_mild_answer none
-light_done n at k s t (actions.Ack table number) out answer light (written, inl (settled, is, call)) = ap is_mild_answer is
-light_done n at k s t (actions.Ack table number) out answer light (written, inr (is, call)) = ap is_mild_answer is
-light_done n at k s t (actions.Copy table kind) out answer light done = absurd (false≢true light)
-light_done n at k s t (actions.Teach batch) out answer light done = absurd (false≢true light)
+light_done : (n at : ℕ) (x : SessionState) (s t : SeatState) (act : Action) (out : List ℕ) (answer : Option Event) → is_light act ≡ true → Done n at x s (as_standing act) out answer t → is_mild_answer answer ≡ true
+light_done n at x s t (actions.Send bytes) out answer light (written, none, same) = ap is_mild_answer none
+light_done n at x s t (actions.Learn u) out answer light (written, none, learned) = ap is_mild_answer none
+light_done n at x s t (actions.Reopen table) out answer light (written, none, reopened) = ap is_mild_answer none
+light_done n at x s t (actions.Part kind) out answer light (written, none, same) = ap is_mild_answer none
+light_done n at x s t actions.Close out answer light (written, none, same) = ap is_mild_answer none
+light_done n at x s t (actions.Ack table number) out answer light (written, inl (settled, is, call)) = ap is_mild_answer is
+light_done n at x s t (actions.Ack table number) out answer light (written, inr (is, call)) = ap is_mild_answer is
+light_done n at x s t (actions.Copy table kind) out answer light done = absurd (false≢true light)
+light_done n at x s t (actions.Teach batch) out answer light done = absurd (false≢true light)
 
 mild_late : (answer : Option Event) → is_mild_answer answer ≡ true → is_late_answer answer ≡ true
 mild_late None mild = refl
@@ -496,15 +496,15 @@ mild_late (Some (events.Bytes bytes)) mild = mild
 mild_late (Some events.Turn) mild = mild
 mild_late (Some (events.Copied table batch)) mild = mild
 
-fair_done : (n at : ℕ) (k : KnownState) (s t : SeatState) (act : Action) (out : List ℕ) (answer : Option Event) → is_fair act ≡ true → Done n at k s (as_standing act) out answer t → is_late_answer answer ≡ true
-fair_done n at k s t (actions.Teach batch) out answer fair (after, lesson, is, settled) = ap is_late_answer is
-fair_done n at k s t (actions.Copy table kind) out answer fair done = absurd (false≢true fair)
-fair_done n at k s t (actions.Send bytes) out answer fair done = mild_late answer (light_done n at k s t (actions.Send bytes) out answer refl done)
-fair_done n at k s t (actions.Learn u) out answer fair done = mild_late answer (light_done n at k s t (actions.Learn u) out answer refl done)
-fair_done n at k s t (actions.Reopen table) out answer fair done = mild_late answer (light_done n at k s t (actions.Reopen table) out answer refl done)
-fair_done n at k s t (actions.Part kind) out answer fair done = mild_late answer (light_done n at k s t (actions.Part kind) out answer refl done)
-fair_done n at k s t actions.Close out answer fair done = mild_late answer (light_done n at k s t actions.Close out answer refl done)
-fair_done n at k s t (actions.Ack table number) out answer fair done = mild_late answer (light_done n at k s t (actions.Ack table number) out answer refl done)
+fair_done : (n at : ℕ) (x : SessionState) (s t : SeatState) (act : Action) (out : List ℕ) (answer : Option Event) → is_fair act ≡ true → Done n at x s (as_standing act) out answer t → is_late_answer answer ≡ true
+fair_done n at x s t (actions.Teach batch) out answer fair (after, lesson, is, settled) = ap is_late_answer is
+fair_done n at x s t (actions.Copy table kind) out answer fair done = absurd (false≢true fair)
+fair_done n at x s t (actions.Send bytes) out answer fair done = mild_late answer (light_done n at x s t (actions.Send bytes) out answer refl done)
+fair_done n at x s t (actions.Learn u) out answer fair done = mild_late answer (light_done n at x s t (actions.Learn u) out answer refl done)
+fair_done n at x s t (actions.Reopen table) out answer fair done = mild_late answer (light_done n at x s t (actions.Reopen table) out answer refl done)
+fair_done n at x s t (actions.Part kind) out answer fair done = mild_late answer (light_done n at x s t (actions.Part kind) out answer refl done)
+fair_done n at x s t actions.Close out answer fair done = mild_late answer (light_done n at x s t actions.Close out answer refl done)
+fair_done n at x s t (actions.Ack table number) out answer fair done = mild_late answer (light_done n at x s t (actions.Ack table number) out answer refl done)
 
 -- ---- one action after another
 
@@ -519,7 +519,7 @@ fair_performed w e (act ∷ acts) answers out are (bytes, more, answer, first, r
     let done = done_at w seat act bytes answer performed in
     let both = and_parts (is_fair act) (are_fair acts) are in
     asked_of is_light answers first rest is
-    (told_light w.session w.now answer first mid (fair_done w.number done.0 w.session.session.known w.seat seat act bytes answer both.0 done.1) told)
+    (told_light w.session w.now answer first mid (fair_done w.number done.0 w.session.session w.seat seat act bytes answer both.0 done.1) told)
     (fair_performed (stays w mid seat) e acts rest more both.1 after)
 
 light_performed : (w e : StandingWorker) (acts : List Action) (answers : List (Event × List Action)) (out : List ℕ) → are_light acts ≡ true → Performs w acts answers out e → are_mute (asked answers) ≡ true
@@ -528,7 +528,7 @@ light_performed w e (act ∷ acts) answers out are (bytes, more, answer, first, 
     let done = done_at w seat act bytes answer performed in
     let both = and_parts (is_light act) (are_light acts) are in
     asked_of is_mute answers first rest is
-    (told_mute w.session w.now answer first mid (light_done w.number done.0 w.session.session.known w.seat seat act bytes answer both.0 done.1) told)
+    (told_mute w.session w.now answer first mid (light_done w.number done.0 w.session.session w.seat seat act bytes answer both.0 done.1) told)
     (light_performed (stays w mid seat) e acts rest more both.1 after)
 
 told_nothing : (s : StandingState) (now : ℕ) (answer : Option Event) (steps : List (Event × List Action)) (e : StandingState) → answer ≡ None → IsTold s now answer steps e → steps ≡ []
@@ -540,7 +540,7 @@ mute_performed w e (act ∷ acts) answers out are (bytes, more, answer, first, r
     let done = done_at w seat act bytes answer performed in
     let both = and_parts (is_mute act) (are_mute acts) are in
     is
-    ∙ (ap (λ (x : List (Event × List Action)). x ++ rest) (told_nothing w.session w.now answer first mid (mute_done w.number done.0 w.session.session.known w.seat seat act bytes answer both.0 done.1) told)
+    ∙ (ap (λ (x : List (Event × List Action)). x ++ rest) (told_nothing w.session w.now answer first mid (mute_done w.number done.0 w.session.session w.seat seat act bytes answer both.0 done.1) told)
     ∙ mute_performed (stays w mid seat) e acts rest more both.1 after)
 
 -- ---- no request waits after answers
@@ -580,7 +580,7 @@ any_performed w e [] answers out (none, nothing, same) = asks_none is_fair answe
 any_performed w e (act ∷ acts) answers out (bytes, more, answer, first, rest, seat, mid, performed, told, after, is, written) =
     let done = done_at w seat act bytes answer performed in
     asked_of is_fair answers first rest is
-    (told_fair w.session w.now answer first mid (done_answered w.number done.0 w.session.session.known w.seat seat (as_standing act) bytes answer done.1) told)
+    (told_fair w.session w.now answer first mid (done_answered w.number done.0 w.session.session w.seat seat (as_standing act) bytes answer done.1) told)
     (any_performed (stays w mid seat) e acts rest more after)
 
 free_performed : (w e : StandingWorker) (acts : List Action) (answers : List (Event × List Action)) (out : List ℕ) → IsFree w.session → Performs w acts answers out e → IsFree e.session
@@ -588,7 +588,7 @@ free_performed w e [] answers out free (none, nothing, same) = free_as w.session
 free_performed w e (act ∷ acts) answers out free (bytes, more, answer, first, rest, seat, mid, performed, told, after, is, written) =
     let done = done_at w seat act bytes answer performed in
     free_performed (stays w mid seat) e acts rest more
-    (told_free w.session w.now answer first mid (done_answered w.number done.0 w.session.session.known w.seat seat (as_standing act) bytes answer done.1) free told) after
+    (told_free w.session w.now answer first mid (done_answered w.number done.0 w.session.session w.seat seat (as_standing act) bytes answer done.1) free told) after
 
 -- ---- acknowledgements while no request waits
 
@@ -645,19 +645,19 @@ none_told s now answer steps e none told = inl (ap asked (told_nothing s now ans
 told_as_some : (s : StandingState) (now : ℕ) (answer : Option Event) (event : Event) (steps : List (Event × List Action)) (e : StandingState) → answer ≡ Some event → IsTold s now answer steps e → IsTold s now (Some event) steps e
 told_as_some s now answer event steps e is told = subst (λ (x : Option Event). IsTold s now x steps e) is told
 
-light_told : (n at now : ℕ) (k : KnownState) (t u : SeatState) (act : Action) (s e : StandingState) (answer : Option Event) (steps : List (Event × List Action)) (out : List ℕ)
-    → is_light act ≡ true → IsFree s → Done n at k t (as_standing act) out answer u → IsTold s now answer steps e → IsNothingOrPart (asked steps) e.session
-light_told n at now k t u (actions.Send bytes) s e answer steps out light free (written, none, same) told = none_told s now answer steps e none told
-light_told n at now k t u (actions.Learn x) s e answer steps out light free (written, none, learned) told = none_told s now answer steps e none told
-light_told n at now k t u (actions.Reopen table) s e answer steps out light free (written, none, reopened) told = none_told s now answer steps e none told
-light_told n at now k t u (actions.Part kind) s e answer steps out light free (written, none, same) told = none_told s now answer steps e none told
-light_told n at now k t u actions.Close s e answer steps out light free (written, none, same) told = none_told s now answer steps e none told
-light_told n at now k t u (actions.Ack table number) s e answer steps out light free (written, inl (settled, is, call)) told =
+light_told : (n at now : ℕ) (x : SessionState) (t u : SeatState) (act : Action) (s e : StandingState) (answer : Option Event) (steps : List (Event × List Action)) (out : List ℕ)
+    → is_light act ≡ true → IsFree s → Done n at x t (as_standing act) out answer u → IsTold s now answer steps e → IsNothingOrPart (asked steps) e.session
+light_told n at now x t u (actions.Send bytes) s e answer steps out light free (written, none, same) told = none_told s now answer steps e none told
+light_told n at now x t u (actions.Learn row) s e answer steps out light free (written, none, learned) told = none_told s now answer steps e none told
+light_told n at now x t u (actions.Reopen table) s e answer steps out light free (written, none, reopened) told = none_told s now answer steps e none told
+light_told n at now x t u (actions.Part kind) s e answer steps out light free (written, none, same) told = none_told s now answer steps e none told
+light_told n at now x t u actions.Close s e answer steps out light free (written, none, same) told = none_told s now answer steps e none told
+light_told n at now x t u (actions.Ack table number) s e answer steps out light free (written, inl (settled, is, call)) told =
     settled_told s now table settled steps e free (told_as_some s now answer (events.Settled table settled) steps e is told)
-light_told n at now k t u (actions.Ack table number) s e answer steps out light free (written, inr (is, call)) told =
+light_told n at now x t u (actions.Ack table number) s e answer steps out light free (written, inr (is, call)) told =
     refused_told s now table steps e free (told_as_some s now answer (events.Refused table) steps e is told)
-light_told n at now k t u (actions.Copy table kind) s e answer steps out light free done told = absurd (false≢true light)
-light_told n at now k t u (actions.Teach batch) s e answer steps out light free done told = absurd (false≢true light)
+light_told n at now x t u (actions.Copy table kind) s e answer steps out light free done told = absurd (false≢true light)
+light_told n at now x t u (actions.Teach batch) s e answer steps out light free done told = absurd (false≢true light)
 
 -- a session that is over receives nothing
 over_in : (state : State) (s : StandingState) (now : ℕ) (event : Event) (steps : List (Event × List Action)) (e : StandingState) → state ≡ states.Ended → IsToldIn state s now event steps e → (steps ≡ []) × (e ≡ s)
@@ -682,11 +682,11 @@ acks_performed w e (act ∷ acts) answers out light free (bytes, more, answer, f
     let done = done_at w seat act bytes answer performed in
     let both = and_parts (is_light act) (are_light acts) light in
     let joined : asked answers ≡ asked first ++ asked rest = ap asked is ∙ flat_map-append (λ (step : Event × List Action). step.1) first rest in
-    elim (light_told w.number done.0 w.now w.session.session.known w.seat seat act w.session mid answer first bytes both.0 free done.1 told) [
+    elim (light_told w.number done.0 w.now w.session.session w.seat seat act w.session mid answer first bytes both.0 free done.1 told) [
       | inl none ↦
           at_asked (asked answers) (asked rest) e.session.session (joined ∙ ap (λ (x : List Action). x ++ asked rest) none)
           (acks_performed (stays w mid seat) e acts rest more both.1
-          (told_free w.session w.now answer first mid (done_answered w.number done.0 w.session.session.known w.seat seat (as_standing act) bytes answer done.1) free told) after)
+          (told_free w.session w.now answer first mid (done_answered w.number done.0 w.session.session w.seat seat (as_standing act) bytes answer done.1) free told) after)
       | inr part ↦
           let over = over_performed (stays w mid seat) e acts rest more part.1 after in
           inr (joined ∙ (ap (λ (x : List Action). asked first ++ x) (ap asked over.0) ∙ (append-nil (asked first) ∙ part.0)), over.1)

@@ -7,6 +7,7 @@ use Rattle.std.specs.Prelude.{◌≢◌}
 use Rattle.std.specs.Io.KnownBytes.{Appends, Consumes}
 use Rattle.table_types.specs.declared.update.Update.{Update}
 use Rattle.table_types.specs.declared.copies.CopyKind.{CopyKind}
+use Rattle.table_types.specs.declared.version.Version.{Version}
 use Rattle.table_shards.specs.Receipts.{SeatState}
 use Rattle.known_state.specs.Known.{KnownState}
 use Rattle.teach_writer.specs.Lessons.{IsShortestLesson}
@@ -19,7 +20,7 @@ use Rattle.session_core.specs.declared.state.State.TheVariants as states
 use Rattle.session_core.specs.Sessions.{state_of}
 use Rattle.session_core.specs.Standing.{StandingState, Stands, Ticks}
 use Rattle.peers_engine.specs.Acting.{asked}
-use Rattle.peers_engine.specs.Calls.{IsCopiedLate, IsLearnedLate, IsReopened, IsSettled, IsTaken}
+use Rattle.peers_engine.specs.Calls.{IsCopiedLate, IsLearnedLate, IsReopened, IsSettled, IsTaken, opened_with}
 use Rattle.peers_engine.specs.Reading.{IsRead}
 use Rattle.peers_engine.specs.Staying.{AreReopened, IsPerformed, IsTold, IsToldIn, Performs, Responds, RespondsTo, StandingWorker, TakesStandingTurn, TakesTick, standing_kind, stays, without_request}
 use Rattle.peers_engine.specs.Turns.{first_event}
@@ -41,7 +42,7 @@ pub bytes_sent : (w : StandingWorker) (action : Action) (bytes sent : List ℕ) 
     → action ≡ actions.Send bytes → sent ≡ bytes → Appends old new (without_request sent) → HasPerformed w action None w.seat old new
 bytes_sent w action bytes sent old new is same appended =
     performed_as w w.seat action (actions.Send bytes) None old new is
-    (send_done w.number w.now w.session.session.known w.seat (actions.Send (without_request bytes)) (without_request bytes) (without_request sent) old new refl (ap without_request same) appended)
+    (send_done w.number w.now w.session.session w.seat (actions.Send (without_request bytes)) (without_request bytes) (without_request sent) old new refl (ap without_request same) appended)
 
 -- a row that is learned
 pub row_learned : (w : StandingWorker) (seat : SeatState) (action : Action) (u : Update) (known : Option (List ℕ))
@@ -62,7 +63,7 @@ pub ack_passed_on : (w : StandingWorker) (seat : SeatState) (action : Action) (t
     → action ≡ actions.Ack table number → IsTaken w.number w.seat table number seat event → HasPerformed w action (Some event) seat known known
 ack_passed_on w seat action table number known event is taken =
     performed_as w seat action (actions.Ack table number) (Some event) known known is
-    (ack_done w.number w.now w.session.session.known w.seat seat (actions.Ack table number) table number known event refl taken)
+    (ack_done w.number w.now w.session.session w.seat seat (actions.Ack table number) table number known event refl taken)
 
 -- a lesson that is written
 pub lesson_written : (w : StandingWorker) (seat : SeatState) (action : Action) (k : KnownState) (batch : List Update) (old new : Option (List ℕ)) (event : Event)
@@ -71,7 +72,7 @@ pub lesson_written : (w : StandingWorker) (seat : SeatState) (action : Action) (
     → HasPerformed w action (Some event) seat old new
 lesson_written w seat action k batch old new event is same taught =
     performed_as w seat action (actions.Teach batch) (Some event) old new is
-    (teach_done w.number w.now k w.session.session.known w.seat seat (actions.Teach batch) batch old new event refl same taught)
+    (teach_done w.number w.now k w.session.session w.seat seat (actions.Teach batch) batch old new event refl same taught)
 
 -- ---- its answer
 
@@ -213,13 +214,13 @@ without_read w e event known a b is (out, responds, appended) =
 -- ---- a tick
 
 -- the session is reopened in the next table, and then in those that are left
-pub reopened_first : (n : ℕ) (s mid t : SeatState) (tables : List ℕ) (index default : ℕ) → index < length tables
-    → IsReopened n s (get_or tables index default) mid → AreReopened n mid (drop (index + 1) tables) t → AreReopened n s (drop index tables) t
-reopened_first n s mid t tables index default within reopened rest =
-    subst (λ (x : List ℕ). AreReopened n s x t) (sym (drop_more tables index default within)) (mid, reopened, rest)
+pub reopened_first : (n : ℕ) (version : Version) (s mid t : SeatState) (tables : List ℕ) (index default : ℕ) → index < length tables
+    → IsReopened n version s (get_or tables index default) mid → AreReopened n version mid (drop (index + 1) tables) t → AreReopened n version s (drop index tables) t
+reopened_first n version s mid t tables index default within reopened rest =
+    subst (λ (x : List ℕ). AreReopened n version s x t) (sym (drop_more tables index default within)) (mid, reopened, rest)
 
 pub ticked : (w e : StandingWorker) (mid : StandingState) (seat : SeatState) (left : List ℕ) (acts rest : List Action) (a b : Option (List ℕ))
-    → Ticks w.session w.now left acts mid → AreReopened w.number w.seat left seat → AllPerformed (stays w mid seat) acts rest e a b
+    → Ticks w.session w.now left acts mid → AreReopened w.number (opened_with mid.session.version) w.seat left seat → AllPerformed (stays w mid seat) acts rest e a b
     → (out : List ℕ) × TakesTick w out e × Appends a b out
 ticked w e mid seat left acts rest a b ticks reopened (answers, out, performed, kept, appended) =
     (out, (left, acts, answers, mid, seat, ticks, reopened, performed, tick_ends w e mid seat left acts answers out ticks performed), appended)

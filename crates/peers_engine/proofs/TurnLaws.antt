@@ -5,7 +5,6 @@ use Rattle.std.specs.List.{list_all}
 use Rattle.std.specs.Io.KnownBytes.{Appends, Consumes}
 use Rattle.std.proofs.KnownBytes.{Appends-trans, Consumes-nil}
 use Rattle.table_shards.specs.Receipts.{SeatState}
-use Rattle.known_state.specs.Known.{KnownState}
 use Rattle.session_core.specs.declared.action.Action.{Action}
 use Rattle.session_core.specs.declared.error.SessionError.{SessionError}
 use Rattle.session_core.specs.declared.error.SessionError.TheVariants as refusals
@@ -36,34 +35,34 @@ AreStopped s acts error e seat old new =
     (answers : List (Event × List Action)) × (out : List ℕ) × Stops s acts error answers out e seat × Appends old new out
 
 -- one action is performed
-abbrev pub OneDone : ℕ → ℕ → KnownState → SeatState → SeatState → Action → Option (List ℕ) → Option (List ℕ) → Option Event → Type 0
-OneDone n now k s t act old new answer = (out : List ℕ) × Done n now k s act out answer t × Appends old new out
+abbrev pub OneDone : ℕ → ℕ → SessionState → SeatState → SeatState → Action → Option (List ℕ) → Option (List ℕ) → Option Event → Type 0
+OneDone n now x s t act old new answer = (out : List ℕ) × Done n now x s act out answer t × Appends old new out
 
 -- one action fails
-abbrev pub OneFails : ℕ → ℕ → KnownState → SeatState → SeatState → Action → Option (List ℕ) → Option (List ℕ) → EngineError → Type 0
-OneFails n now k s t act old new error = (out : List ℕ) × Fails n now k s act error out t × Appends old new out
+abbrev pub OneFails : ℕ → ℕ → SessionState → SeatState → SeatState → Action → Option (List ℕ) → Option (List ℕ) → EngineError → Type 0
+OneFails n now x s t act old new error = (out : List ℕ) × Fails n now x s act error out t × Appends old new out
 
 -- a session that isn't over doesn't go on after an answer
 abbrev pub IsNotGiven : SessionState → Option Event → SessionState → EngineError → Type 0
 IsNotGiven s answer e error = (event : Event) × (answer ≡ Some event) × (state_of s.phase ≢ states.Ended) × DoesNotGoOn s event error e
 
 -- the next action fails
-pub next_fails : (s mid : Worker) (seat : SeatState) (k : KnownState) (all before rest given : List Action) (act : Action) (error : EngineError) (a b d : Option (List ℕ))
-    → all ≡ before ++ (act ∷ rest) → k ≡ mid.session.known → AreDone s before given mid a b → OneFails mid.number mid.now k mid.seat seat act b d error → AreStopped s all error mid.session seat a d
-next_fails s mid seat k all before rest given act error a b d is same (answers, out, acted, kept, appended) (last, fails, more) = (
+pub next_fails : (s mid : Worker) (seat : SeatState) (x : SessionState) (all before rest given : List Action) (act : Action) (error : EngineError) (a b d : Option (List ℕ))
+    → all ≡ before ++ (act ∷ rest) → x ≡ mid.session → AreDone s before given mid a b → OneFails mid.number mid.now x mid.seat seat act b d error → AreStopped s all error mid.session seat a d
+next_fails s mid seat x all before rest given act error a b d is same (answers, out, acted, kept, appended) (last, fails, more) = (
   answers,
   out ++ last,
-  act_stops s mid seat all before rest act error answers out last is acted (subst (λ (x : KnownState). Fails mid.number mid.now x mid.seat act error last seat) same fails),
+  act_stops s mid seat all before rest act error answers out last is acted (subst (λ (y : SessionState). Fails mid.number mid.now y mid.seat act error last seat) same fails),
   Appends-trans a b d out last appended more,
 )
 
 -- the session doesn't go on after the answer of the next action
-pub give_fails : (s mid : Worker) (e : SessionState) (seat : SeatState) (k : KnownState) (all before rest given : List Action) (act : Action) (answer : Option Event) (error : EngineError) (a b d : Option (List ℕ))
-    → all ≡ before ++ (act ∷ rest) → k ≡ mid.session.known → AreDone s before given mid a b → OneDone mid.number mid.now k mid.seat seat act b d answer → IsNotGiven mid.session answer e error
+pub give_fails : (s mid : Worker) (e : SessionState) (seat : SeatState) (x : SessionState) (all before rest given : List Action) (act : Action) (answer : Option Event) (error : EngineError) (a b d : Option (List ℕ))
+    → all ≡ before ++ (act ∷ rest) → x ≡ mid.session → AreDone s before given mid a b → OneDone mid.number mid.now x mid.seat seat act b d answer → IsNotGiven mid.session answer e error
     → AreStopped s all error e seat a d
-give_fails s mid e seat k all before rest given act answer error a b d is same (answers, out, acted, kept, appended) (bytes, done, more) (event, some, going, stuck) =
+give_fails s mid e seat x all before rest given act answer error a b d is same (answers, out, acted, kept, appended) (bytes, done, more) (event, some, going, stuck) =
     let stops = give_stops s mid e seat all before rest act answer event error answers out bytes is acted
-    (subst (λ (x : KnownState). Done mid.number mid.now x mid.seat act bytes answer seat) same done) some going stuck in
+    (subst (λ (y : SessionState). Done mid.number mid.now y mid.seat act bytes answer seat) same done) some going stuck in
     (stops.0, out ++ bytes, stops.1, Appends-trans a b d out bytes appended more)
 
 -- ---- one event

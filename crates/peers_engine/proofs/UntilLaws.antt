@@ -4,6 +4,7 @@ use Rattle.std.proofs.KnownBytes.{Appends-nil, Appends-trans, Consumes-nil}
 use Rattle.std.proofs.lemmas.List.{append-nil, drop_more}
 use Rattle.std.specs.Prelude.{◌⊎◌, ◌≢◌, Result, Ok, Err, IfErr, OnErr}
 use Rattle.std.specs.Io.KnownBytes.{Appends, Consumes}
+use Rattle.table_types.specs.declared.version.Version.{Version}
 use Rattle.table_shards.specs.Receipts.{SeatState}
 use Rattle.session_core.specs.declared.action.Action.{Action}
 use Rattle.session_core.specs.declared.action.Action.TheVariants as actions
@@ -15,7 +16,7 @@ use Rattle.session_core.specs.Standing.{StandingState, Stands, Ticks}
 use Rattle.peers_engine.specs.declared.errors.EngineError.{EngineError}
 use Rattle.peers_engine.specs.declared.errors.EngineError.TheVariants as errors
 use Rattle.peers_engine.specs.Acting.{IsLost, IsRefused, asked}
-use Rattle.peers_engine.specs.Calls.{IsReopened}
+use Rattle.peers_engine.specs.Calls.{IsReopened, opened_with}
 use Rattle.peers_engine.specs.Doing.{Falls, IsAtTable, IsLeft, IsRefusal}
 use Rattle.peers_engine.specs.Reading.{IsRead}
 use Rattle.peers_engine.specs.Staying.{AreReopened, DoesNotStay, FailsToReopen, IsFailed, IsPerformed, IsStandingCut, Performs, PerformsUntil, Responds, RespondsToUntil, RespondsUntil, StandingWorker, StopsStandingTurn, StopsTick, as_standing, stays, without_request}
@@ -33,7 +34,7 @@ abbrev pub HasFailed : StandingWorker → Action → SeatState → Option (List 
 HasFailed w act seat old new error = (out : List ℕ) × IsFailed w act error out seat × Appends old new out
 
 pub failed_now : (w : StandingWorker) (seat : SeatState) (action act : Action) (error : EngineError) (old new : Option (List ℕ))
-    → action ≡ act → OneFails w.number w.now w.session.session.known w.seat seat (as_standing act) old new error → HasFailed w action seat old new error
+    → action ≡ act → OneFails w.number w.now w.session.session w.seat seat (as_standing act) old new error → HasFailed w action seat old new error
 failed_now w seat action act error old new is (out, fails, appended) =
     subst (λ (a : Action). HasFailed w a seat old new error) (sym is) (out, fails, appended)
 
@@ -42,14 +43,14 @@ pub bytes_fall : (w : StandingWorker) (action : Action) (bytes sent : List ℕ) 
     → action ≡ actions.Send bytes → sent ≡ bytes → Falls (without_request sent) error old new → HasFailed w action w.seat old new error
 bytes_fall w action bytes sent error old new is same falls =
     failed_now w w.seat action (actions.Send bytes) error old new is
-    (send_falls w.number w.now w.session.session.known w.seat (actions.Send (without_request bytes)) (without_request bytes) (without_request sent) error old new refl (ap without_request same) falls)
+    (send_falls w.number w.now w.session.session w.seat (actions.Send (without_request bytes)) (without_request bytes) (without_request sent) error old new refl (ap without_request same) falls)
 
 -- a table refuses it, or memory runs out
 pub table_fails : (w : StandingWorker) (seat : SeatState) (action act : Action) (error : EngineError) (known : Option (List ℕ))
     → action ≡ act → IsAtTable (as_standing act) → IsRefusal error → IsLeft w.number w.seat (as_standing act) seat → HasFailed w action seat known known error
 table_fails w seat action act error known is at refused left =
     failed_now w seat action act error known known is
-    (call_refused w.number w.now w.session.session.known w.seat seat (as_standing act) (as_standing act) known error refl at refused left)
+    (call_refused w.number w.now w.session.session w.seat seat (as_standing act) (as_standing act) known error refl at refused left)
 
 -- the same of the result of a call
 pub call_fails : {X : Type 0} (w : StandingWorker) (seat : SeatState) (action act : Action) (known : Option (List ℕ)) (result : Result X EngineError)
@@ -325,12 +326,12 @@ tick_refused w e error known refused over = ([], inl (refused, refl, ap ended ov
 
 -- the session isn't reopened in a table that it leaves
 pub tick_left : (w : StandingWorker) (mid : StandingState) (seat : SeatState) (left : List ℕ) (acts : List Action) (error : EngineError) (known : Option (List ℕ))
-    → Ticks w.session w.now left acts mid → IsRefusal error → FailsToReopen w.number w.seat left seat → HasStoppedTick w mid.session seat known known error
+    → Ticks w.session w.now left acts mid → IsRefusal error → FailsToReopen w.number (opened_with mid.session.version) w.seat left seat → HasStoppedTick w mid.session seat known known error
 tick_left w mid seat left acts error known ticks refused fails = ([], inr (left, acts, mid, ticks, inl (refused, fails, refl, refl)), Appends-nil known)
 
 -- an error among what it asks for
 pub tick_fails : (w : StandingWorker) (mid : StandingState) (e : SessionState) (next seat : SeatState) (left : List ℕ) (acts : List Action) (error : EngineError) (a b : Option (List ℕ))
-    → Ticks w.session w.now left acts mid → AreReopened w.number w.seat left next → AllUntil (stays w mid next) acts e seat a b error → HasStoppedTick w e seat a b error
+    → Ticks w.session w.now left acts mid → AreReopened w.number (opened_with mid.session.version) w.seat left next → AllUntil (stays w mid next) acts e seat a b error → HasStoppedTick w e seat a b error
 tick_fails w mid e next seat left acts error a b ticks reopened (answers, out, until, appended) =
     (out, inr (left, acts, mid, ticks, inr (answers, next, reopened, until)), appended)
 
@@ -345,13 +346,13 @@ tick_stopped w e new seat error a b (out, stops, appended) is =
     (out, subst (λ (x : SessionState). StopsTick w error out x seat) (sym is) (tick_ended w e seat error out stops), appended)
 
 -- the session isn't reopened in the next table
-pub not_reopened_here : (n : ℕ) (s t : SeatState) (tables : List ℕ) (index default : ℕ) → index < length tables
-    → IsLeft n s (actions.Reopen (get_or tables index default)) t → FailsToReopen n s (drop index tables) t
-not_reopened_here n s t tables index default within left =
-    subst (λ (x : List ℕ). FailsToReopen n s x t) (sym (drop_more tables index default within)) (inl left)
+pub not_reopened_here : (n : ℕ) (version : Version) (s t : SeatState) (tables : List ℕ) (index default : ℕ) → index < length tables
+    → IsLeft n s (actions.Reopen (get_or tables index default)) t → FailsToReopen n version s (drop index tables) t
+not_reopened_here n version s t tables index default within left =
+    subst (λ (x : List ℕ). FailsToReopen n version s x t) (sym (drop_more tables index default within)) (inl left)
 
 -- it is, but isn't in one of those that are left
-pub not_reopened_later : (n : ℕ) (s mid t : SeatState) (tables : List ℕ) (index default : ℕ) → index < length tables
-    → IsReopened n s (get_or tables index default) mid → FailsToReopen n mid (drop (index + 1) tables) t → FailsToReopen n s (drop index tables) t
-not_reopened_later n s mid t tables index default within reopened fails =
-    subst (λ (x : List ℕ). FailsToReopen n s x t) (sym (drop_more tables index default within)) (inr (mid, reopened, fails))
+pub not_reopened_later : (n : ℕ) (version : Version) (s mid t : SeatState) (tables : List ℕ) (index default : ℕ) → index < length tables
+    → IsReopened n version s (get_or tables index default) mid → FailsToReopen n version mid (drop (index + 1) tables) t → FailsToReopen n version s (drop index tables) t
+not_reopened_later n version s mid t tables index default within reopened fails =
+    subst (λ (x : List ℕ). FailsToReopen n version s x t) (sym (drop_more tables index default within)) (inr (mid, reopened, fails))

@@ -46,7 +46,7 @@ Acts w (act ∷ acts) answers out e =
     × (first rest : List (Event × List Action))
     × (seat : SeatState)
     × (mid : SessionState)
-    × Done w.number w.now w.session.known w.seat act bytes answer seat
+    × Done w.number w.now w.session w.seat act bytes answer seat
     × IsGiven w.session answer first mid
     × Acts (stands w mid seat) acts rest more e
     × (answers ≡ first ++ rest)
@@ -74,8 +74,8 @@ DoesNotGoOn s event error e =
 abbrev pub IsCut : Worker → List Action → EngineError → List ℕ → SeatState → Type 0
 IsCut w [] error out seat = ⊥
 IsCut w (act ∷ rest) error out seat =
-    Fails w.number w.now w.session.known w.seat act error out seat
-    ⊎ ((answer : Event) × Done w.number w.now w.session.known w.seat act out (Some answer) seat
+    Fails w.number w.now w.session w.seat act error out seat
+    ⊎ ((answer : Event) × Done w.number w.now w.session w.seat act out (Some answer) seat
     × (state_of w.session.phase ≢ states.Ended) × IsRefused w.session answer error)
 
 -- memory ran out for what an answer that was received asks for

@@ -3,10 +3,11 @@
 -- table leaves its receipt at the seat, with the answer. A call that makes none leaves the seat as it was, unless the table
 -- is full, has nothing to copy, refuses an acknowledgement as ahead or finds a batch to be the latest one: that answer is
 -- then at the seat.
-use Rattle.std.specs.Prelude.{◌≡◌, ◌⊎◌, ℕ, max, List, Result, Ok, Err, Some, slice_get}
+use Rattle.std.specs.Prelude.{◌≡◌, ◌⊎◌, ℕ, max, List, Option, Result, Ok, Err, Some, None, slice_get}
 use Rattle.table_types.specs.declared.update.Update.{Update}
 use Rattle.table_types.specs.declared.copies.CopyKind.{CopyKind}
 use Rattle.table_types.specs.declared.copies.Settled.{Settled}
+use Rattle.table_types.specs.declared.version.Version.{Version}
 use Rattle.table_types.specs.declared.version.Version.TheVariants as versions
 use Rattle.table_cell.specs.Histories.{Acknowledges, CellState, Closes, Copies, IsSoundCell, Kept, Learns, Opens, events_of}
 use Rattle.table_cell.specs.declared.errors.AckError.{AckError}
@@ -59,11 +60,11 @@ CallsAck n s table number answer t =
     × Notes (λ mid. Holds (λ x r y. Acknowledges x n number r y) (λ settled. receipted table c s (events.Ack n number) (replies.Ack settled)) table c s answer e mid)
     table n (events_of c) (if_ahead number answer) t
 
--- the session is opened with version 2.1
-abbrev pub CallsOpen : ℕ → SeatState → ℕ → Result (Unit {0}) (ShardError OpenError) → SeatState → Type 0
-CallsOpen n s table answer t =
+-- the session is opened with this version
+abbrev pub CallsOpen : ℕ → Version → SeatState → ℕ → Result (Unit {0}) (ShardError OpenError) → SeatState → Type 0
+CallsOpen n version s table answer t =
     (c : CellState) × IsSoundTable c × (e : CellState)
-    × Holds (λ x r y. Opens x n versions.V21 r y) (λ done. receipted table c s (events.Open n versions.V21) replies.Open) table c s answer e t
+    × Holds (λ x r y. Opens x n version r y) (λ done. receipted table c s (events.Open n version) replies.Open) table c s answer e t
 
 abbrev pub CallsClose : ℕ → SeatState → ℕ → Result (Unit {0}) (ShardError CloseError) → SeatState → Type 0
 CallsClose n s table answer t =
@@ -103,9 +104,14 @@ abbrev pub IsCopiedLate : ℕ → ℕ → SeatState → ℕ → CopyKind → Sea
 IsCopiedLate n now s table kind t event =
     (c : CellState) × (at : ℕ) × (at ≡ max now c.state.latest) × IsCopiedOn c n at s table kind t event
 
--- the session is closed in the table and opened anew
-abbrev pub IsReopened : ℕ → SeatState → ℕ → SeatState → Type 0
-IsReopened n s table t = (mid : SeatState) × CallsClose n s table (Ok tt) mid × CallsOpen n mid table (Ok tt) t
+-- the version with which a session is opened in its tables: the one that it speaks, or 2.1 until its hello is done
+abbrev pub opened_with : Option Version → Version
+opened_with None = versions.V21
+opened_with (Some version) = version
+
+-- the session is closed in the table and opened anew, with this version
+abbrev pub IsReopened : ℕ → Version → SeatState → ℕ → SeatState → Type 0
+IsReopened n version s table t = (mid : SeatState) × CallsClose n s table (Ok tt) mid × CallsOpen n version mid table (Ok tt) t
 
 -- the batch is the session's latest one in the table of its first update
 abbrev pub IsSettled : ℕ → SeatState → List Update → SeatState → Type 0

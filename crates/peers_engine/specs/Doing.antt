@@ -15,7 +15,8 @@ use Rattle.session_core.specs.declared.action.Action.{Action}
 use Rattle.session_core.specs.declared.action.Action.TheVariants as actions
 use Rattle.session_core.specs.declared.event.Event.{Event}
 use Rattle.session_core.specs.declared.event.Event.TheVariants as events
-use Rattle.peers_engine.specs.Calls.{CallsAck, CallsClose, CallsCopy, IsLearned, IsReopened, IsSettled}
+use Rattle.session_core.specs.Sessions.{SessionState}
+use Rattle.peers_engine.specs.Calls.{CallsAck, CallsClose, CallsCopy, IsLearned, IsReopened, IsSettled, opened_with}
 use Rattle.peers_engine.specs.declared.errors.EngineError.{EngineError}
 use Rattle.peers_engine.specs.declared.errors.EngineError.TheVariants as errors
 
@@ -23,22 +24,22 @@ use Rattle.peers_engine.specs.declared.errors.EngineError.TheVariants as errors
 abbrev pub error_text : ErrorKind → List ℕ
 error_text kind = 1 ∷ (error_type kind ∷ [])
 
--- Session `n`, whose known state is `k`, performs an action from the seat `s` at the moment `now`: what is written for
--- it, its answer, and how it leaves the seat.
-abbrev pub Done : ℕ → ℕ → KnownState → SeatState → Action → List ℕ → Option Event → SeatState → Type 0
-Done n now k s (actions.Send bytes) out answer t = (out ≡ bytes) × (answer ≡ None) × (t ≡ s)
-Done n now k s (actions.Learn u) out answer t = (out ≡ []) × (answer ≡ None) × IsLearned n now s u t
-Done n now k s (actions.Ack table number) out answer t = (out ≡ [])
+-- Session `n`, which is `x`, performs an action from the seat `s` at the moment `now`: what is written for it, its answer,
+-- and how it leaves the seat.
+abbrev pub Done : ℕ → ℕ → SessionState → SeatState → Action → List ℕ → Option Event → SeatState → Type 0
+Done n now x s (actions.Send bytes) out answer t = (out ≡ bytes) × (answer ≡ None) × (t ≡ s)
+Done n now x s (actions.Learn u) out answer t = (out ≡ []) × (answer ≡ None) × IsLearned n now s u t
+Done n now x s (actions.Ack table number) out answer t = (out ≡ [])
     × (((settled : Settled) × (answer ≡ Some (events.Settled table settled)) × CallsAck n s table number (Ok settled) t)
     ⊎ ((answer ≡ Some (events.Refused table)) × CallsAck n s table number (Err (shards.Cell acks.AckAhead)) t))
-Done n now k s (actions.Reopen table) out answer t = (out ≡ []) × (answer ≡ None) × IsReopened n s table t
-Done n now k s (actions.Copy table kind) out answer t = (out ≡ [])
+Done n now x s (actions.Reopen table) out answer t = (out ≡ []) × (answer ≡ None) × IsReopened n (opened_with x.version) s table t
+Done n now x s (actions.Copy table kind) out answer t = (out ≡ [])
     × (((batch : List Update) × (answer ≡ Some (events.Copied table batch)) × CallsCopy n now s table kind (Ok batch) t)
     ⊎ ((answer ≡ Some (events.Nothing table)) × CallsCopy n now s table kind (Err (shards.Cell copies.Nothing)) t))
-Done n now k s (actions.Teach batch) out answer t =
-    (after : KnownState) × IsShortestLesson k batch out after × (answer ≡ Some (events.Written after)) × IsSettled n s batch t
-Done n now k s (actions.Part kind) out answer t = (out ≡ error_text kind) × (answer ≡ None) × (t ≡ s)
-Done n now k s actions.Close out answer t = (out ≡ []) × (answer ≡ None) × (t ≡ s)
+Done n now x s (actions.Teach batch) out answer t =
+    (after : KnownState) × IsShortestLesson x.known batch out after × (answer ≡ Some (events.Written after)) × IsSettled n s batch t
+Done n now x s (actions.Part kind) out answer t = (out ≡ error_text kind) × (answer ≡ None) × (t ≡ s)
+Done n now x s actions.Close out answer t = (out ≡ []) × (answer ≡ None) × (t ≡ s)
 
 -- the error if a table refuses an action, or if memory runs out
 abbrev pub IsRefusal : EngineError → Type 0
@@ -69,9 +70,9 @@ abbrev pub IsUndone : ℕ → SeatState → Action → EngineError → List ℕ 
 IsUndone n s act error out t = IsRefusal error × IsAtTable act × (out ≡ []) × IsLeft n s act t
 
 -- an action is done, but exactly the first `sent` of its bytes are written, and not all
-abbrev pub IsCutOff : ℕ → ℕ → KnownState → SeatState → Action → ℕ → List ℕ → SeatState → Type 0
-IsCutOff n now k s act sent out t =
-    (bytes : List ℕ) × (answer : Option Event) × Done n now k s act bytes answer t × (sent < length bytes) × (out ≡ take sent bytes)
+abbrev pub IsCutOff : ℕ → ℕ → SessionState → SeatState → Action → ℕ → List ℕ → SeatState → Type 0
+IsCutOff n now x s act sent out t =
+    (bytes : List ℕ) × (answer : Option Event) × Done n now x s act bytes answer t × (sent < length bytes) × (out ≡ take sent bytes)
 
 -- the action whose bytes are made while they are written
 abbrev pub IsTeach : Action → Type 0
@@ -80,7 +81,7 @@ IsTeach act = ⊥
 
 -- An action fails, and leaves the seat: a write failed after some of its bytes, or memory ran out after some bytes of a
 -- lesson, and the seat is as the action leaves it; or a table refused it or memory ran out, and nothing was written.
-abbrev pub Fails : ℕ → ℕ → KnownState → SeatState → Action → EngineError → List ℕ → SeatState → Type 0
-Fails n now k s act (errors.Write sent) out t = IsCutOff n now k s act sent out t
-Fails n now k s act errors.Memory out t = IsUndone n s act errors.Memory out t ⊎ (IsTeach act × (sent : ℕ) × IsCutOff n now k s act sent out t)
-Fails n now k s act error out t = IsUndone n s act error out t
+abbrev pub Fails : ℕ → ℕ → SessionState → SeatState → Action → EngineError → List ℕ → SeatState → Type 0
+Fails n now x s act (errors.Write sent) out t = IsCutOff n now x s act sent out t
+Fails n now x s act errors.Memory out t = IsUndone n s act errors.Memory out t ⊎ (IsTeach act × (sent : ℕ) × IsCutOff n now x s act sent out t)
+Fails n now x s act error out t = IsUndone n s act error out t

@@ -5,6 +5,7 @@ use Rattle.std.specs.Prelude.{◌≡◌, ◌≢◌, ◌⊎◌, ℕ, nat_eq, Bool
 use Rattle.std.specs.Cmp.Lexicographic.{pointwise}
 use Rattle.table_types.specs.declared.copies.CopyKind.{CopyKind}
 use Rattle.table_types.specs.declared.copies.CopyKind.TheVariants as copies
+use Rattle.table_types.specs.declared.version.Version.{Version}
 use Rattle.peers_msg.specs.declared.control.Control.TheVariants as controls
 use Rattle.peers_msg.specs.declared.control.ErrorKind.TheVariants as kinds
 use Rattle.table_shards.specs.Receipts.{SeatState}
@@ -20,7 +21,7 @@ use Rattle.session_core.specs.Standing.{StandingState, Stands, Ticks, sent_at}
 use Rattle.peers_engine.specs.declared.errors.EngineError.{EngineError}
 use Rattle.peers_engine.specs.declared.errors.EngineError.TheVariants as errors
 use Rattle.peers_engine.specs.Acting.{IsLost, IsRefused, asked}
-use Rattle.peers_engine.specs.Calls.{IsCopiedLate, IsLearnedLate, IsReopened}
+use Rattle.peers_engine.specs.Calls.{IsCopiedLate, IsLearnedLate, IsReopened, opened_with}
 use Rattle.peers_engine.specs.Doing.{Done, Fails, IsLeft, IsRefusal}
 use Rattle.peers_engine.specs.Reading.{IsUnread}
 use Rattle.peers_engine.specs.Turns.{first_event}
@@ -66,7 +67,7 @@ abbrev pub IsPerformed : StandingWorker → Action → List ℕ → Option Event
 IsPerformed w (actions.Learn u) out answer seat = (out ≡ []) × (answer ≡ None) × IsLearnedLate w.number w.now w.seat u seat
 IsPerformed w (actions.Copy table kind) out answer seat =
     (out ≡ []) × (event : Event) × (answer ≡ Some event) × IsCopiedLate w.number w.now w.seat table (standing_kind kind) seat event
-IsPerformed w act out answer seat = Done w.number w.now w.session.session.known w.seat (as_standing act) out answer seat
+IsPerformed w act out answer seat = Done w.number w.now w.session.session w.seat (as_standing act) out answer seat
 
 -- The session receives an answer, if there is one, at the moment `now`: the events that it receives, each with what it then
 -- asks for. A session that is over receives nothing.
@@ -98,7 +99,7 @@ Performs w (act ∷ acts) answers out e =
 
 -- an action fails, as a session that stays performs it
 abbrev pub IsFailed : StandingWorker → Action → EngineError → List ℕ → SeatState → Type 0
-IsFailed w act error out seat = Fails w.number w.now w.session.session.known w.seat (as_standing act) error out seat
+IsFailed w act error out seat = Fails w.number w.now w.session.session w.seat (as_standing act) error out seat
 
 -- the session refuses the event; or receives it, and memory runs out for what it asks for
 abbrev pub DoesNotStay : StandingState → ℕ → Event → EngineError → StandingState → Type 0
@@ -211,9 +212,9 @@ StopsStandingTurn untouched w received error out e seat =
 -- ---- a tick
 
 -- the session is closed in these tables and opened anew, one after another
-abbrev pub AreReopened : ℕ → SeatState → List ℕ → SeatState → Type 0
-AreReopened n s [] t = t ≡ s
-AreReopened n s (table ∷ tables) t = (mid : SeatState) × IsReopened n s table mid × AreReopened n mid tables t
+abbrev pub AreReopened : ℕ → Version → SeatState → List ℕ → SeatState → Type 0
+AreReopened n version s [] t = t ≡ s
+AreReopened n version s (table ∷ tables) t = (mid : SeatState) × IsReopened n version s table mid × AreReopened n version mid tables t
 
 -- A tick reopens the session in the tables that it leaves, so that no batch of them is out, and then performs what it asks
 -- for, after which nothing is left to do.
@@ -225,15 +226,15 @@ TakesTick w out e =
     × (mid : StandingState)
     × (seat : SeatState)
     × Ticks w.session w.now left acts mid
-    × AreReopened w.number w.seat left seat
+    × AreReopened w.number (opened_with mid.session.version) w.seat left seat
     × Performs (stays w mid seat) acts answers out e
     × (asked answers ≡ [])
 
 -- one of these tables isn't reopened, and those before it are
-abbrev pub FailsToReopen : ℕ → SeatState → List ℕ → SeatState → Type 0
-FailsToReopen n s [] t = ⊥
-FailsToReopen n s (table ∷ tables) t =
-    IsLeft n s (actions.Reopen table) t ⊎ ((mid : SeatState) × IsReopened n s table mid × FailsToReopen n mid tables t)
+abbrev pub FailsToReopen : ℕ → Version → SeatState → List ℕ → SeatState → Type 0
+FailsToReopen n version s [] t = ⊥
+FailsToReopen n version s (table ∷ tables) t =
+    IsLeft n s (actions.Reopen table) t ⊎ ((mid : SeatState) × IsReopened n version s table mid × FailsToReopen n version mid tables t)
 
 -- The session refuses the tick as it refuses a turn; or a table that it leaves isn't reopened, and nothing is written; or what
 -- it asks for is performed up to an error.
@@ -244,10 +245,10 @@ StopsTick w error out e seat =
     × (acts : List Action)
     × (mid : StandingState)
     × Ticks w.session w.now left acts mid
-    × ((IsRefusal error × FailsToReopen w.number w.seat left seat × (out ≡ []) × (ended e ≡ ended mid.session))
+    × ((IsRefusal error × FailsToReopen w.number (opened_with mid.session.version) w.seat left seat × (out ≡ []) × (ended e ≡ ended mid.session))
     ⊎ ((answers : List (Event × List Action))
     × (next : SeatState)
-    × AreReopened w.number w.seat left next
+    × AreReopened w.number (opened_with mid.session.version) w.seat left next
     × PerformsUntil (stays w mid next) acts error answers out e seat)))
 
 -- ---- a request

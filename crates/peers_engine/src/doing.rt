@@ -9,6 +9,7 @@ ghost use Rattle.session_core.specs.declared.action.Action.TheVariants as action
 ghost use Rattle.session_core.specs.declared.event.Event.{Event};
 ghost use Rattle.session_core.specs.declared.event.Event.TheVariants as events;
 ghost use Rattle.peers_engine.specs.declared.errors.EngineError.TheVariants as errors;
+ghost use Rattle.session_core.specs.Sessions.{SessionState};
 ghost use Rattle.peers_engine.specs.Acting.{Acts, Stops, asked, worker};
 ghost use Rattle.peers_engine.specs.Calls.{IsCopied, IsSettled};
 ghost use Rattle.teach_writer.specs.Lessons.{IsShortestLesson};
@@ -19,7 +20,7 @@ use crate::answering::give_answer;
 use crate::context::Context;
 use crate::errors::EngineError;
 use crate::gate::{Gate, Stage};
-use crate::tables::{acknowledge, copy, learn, reopen, settle};
+use crate::tables::{acknowledge, copy, learn, opened_with, reopen, settle};
 use crate::writing::{PiecesError, write_lesson, write_pieces};
 use known_state::Known;
 use peers_devices::Faults;
@@ -104,7 +105,8 @@ pub(crate) fn teach_batch<H: Wait, G: Gate, W: Write + Faults>(
     ensures seat { seat.new.number ≡ seat.old.number }
     ensures taught { IfOk result (λ event. (out : List ℕ) × (after : KnownState) × IsShortestLesson known.now batch.now out after
         × (event ≡ events.Written after) × IsSettled context.now.number seat.old batch.now seat.new × Appends (W.contents output.old) (W.contents output.new) out) }
-    ensures failed { IfErr result (λ e. (out : List ℕ) × Fails context.now.number context.now.moment known.now seat.old (actions.Teach batch.now) e out seat.new
+    ensures failed { (session : SessionState) → session.known ≡ known.now
+        → IfErr result (λ e. (out : List ℕ) × Fails context.now.number context.now.moment session seat.old (actions.Teach batch.now) e out seat.new
         × Appends (W.contents output.old) (W.contents output.new) out) }
     ensures unread { IfErr result (λ e. e ≢ errors.Read) }
 {
@@ -149,7 +151,7 @@ pub(crate) fn do_action<H: Wait, G: Gate, W: Write + Faults>(
     match action {
         Action::Send(bytes) => send(output, bytes.as_slice()),
         Action::Learn(update) => learn(context, seat, update),
-        Action::Reopen(table) => reopen(context, seat, table),
+        Action::Reopen(table) => reopen(context, seat, table, opened_with(session.version())),
         Action::Part(kind) => part(output, kind),
         Action::Close => Ok(()),
         Action::Ack { table, number } => {

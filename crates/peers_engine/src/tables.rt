@@ -2,7 +2,7 @@
 //! answer that makes no event and lets the turn go on.
 
 ghost use Rattle.std.specs.Prelude.{◌≡◌, ◌⊎◌, ℕ, max, IfErr, IfOk, OnErr, OnOk, Ok};
-ghost use Rattle.peers_engine.specs.Calls.{CallsClose, CallsOpen, IsCopied, IsCopiedLate, IsCopiedOn, IsLearned, IsLearnedLate, IsLearnedOn, IsReopened, IsSettled, IsSoundTable, IsTaken};
+ghost use Rattle.peers_engine.specs.Calls.{CallsClose, CallsOpen, IsCopied, IsCopiedLate, IsCopiedOn, IsLearned, IsLearnedLate, IsLearnedOn, IsReopened, IsSettled, IsSoundTable, IsTaken, opened_with};
 ghost use Rattle.peers_engine.specs.Doing.{IsRefusal};
 
 use crate::context::Context;
@@ -245,33 +245,46 @@ fn close<H: Wait, G>(
     }
 }
 
-/// Opens the session in a table, with version 2.1, which every session speaks.
-fn open<H: Wait, G>(context: &Context<H, G>, seat: &mut Seat, table: u64) -> Result<(), EngineError>
+/// Returns the version with which a session is opened in its tables: the one that it speaks, or 2.1 until its hello is done.
+pub(crate) fn opened_with(spoken: Option<Version>) -> Version
+    ensures { result ≡ opened_with spoken }
+{
+    spoken.unwrap_or(Version::V21)
+}
+
+/// Opens the session in a table, with this version.
+fn open<H: Wait, G>(
+    context: &Context<H, G>,
+    seat: &mut Seat,
+    table: u64,
+    version: Version,
+) -> Result<(), EngineError>
     ensures seat { seat.new.number ≡ seat.old.number }
-    ensures opened { OnOk result (CallsOpen context.now.number seat.old table (Ok tt) seat.new) }
+    ensures opened { OnOk result (CallsOpen context.now.number version seat.old table (Ok tt) seat.new) }
     ensures refused { IfErr result IsRefusal }
     ensures stays { OnErr result (seat.new ≡ seat.old) }
 {
     let mut guard = lock(context, table)?;
     let locked: &mut Locked = &mut guard;
     note_sound(locked);
-    match lent::open_session(locked, seat, table, context.number, Version::V21) {
+    match lent::open_session(locked, seat, table, context.number, version) {
         Ok(()) => Ok(()),
         Err(error) => Err(refused(error, OpenError::Memory)),
     }
 }
 
-/// Closes the session in a table and opens it anew.
+/// Closes the session in a table and opens it anew, with this version.
 pub(crate) fn reopen<H: Wait, G>(
     context: &Context<H, G>,
     seat: &mut Seat,
     table: u64,
+    version: Version,
 ) -> Result<(), EngineError>
     ensures seat { seat.new.number ≡ seat.old.number }
-    ensures reopened { OnOk result (IsReopened context.now.number seat.old table seat.new) }
+    ensures reopened { OnOk result (IsReopened context.now.number version seat.old table seat.new) }
     ensures refused { IfErr result IsRefusal }
     ensures left { OnErr result ((seat.new ≡ seat.old) ⊎ CallsClose context.now.number seat.old table (Ok tt) seat.new) }
 {
     close(context, seat, table)?;
-    open(context, seat, table)
+    open(context, seat, table, version)
 }

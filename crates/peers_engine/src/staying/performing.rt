@@ -16,7 +16,7 @@ use crate::doing::{part, send, teach_batch};
 use crate::errors::EngineError;
 use crate::gate::Gate;
 use crate::staying::tally::Tally;
-use crate::tables::{acknowledge, copy_late, learn_late, reopen};
+use crate::tables::{acknowledge, copy_late, learn_late, opened_with, reopen};
 use peers_devices::Faults;
 use session_core::{Action, Event, Standing, State};
 use std::io::Write;
@@ -118,7 +118,7 @@ fn perform<H: Wait, G: Gate, W: Write + Faults>(
             tally.count_learned(table, number);
             Ok(())
         }
-        Action::Reopen(table) => reopen(context, seat, table),
+        Action::Reopen(table) => reopen(context, seat, table, opened_with(session.version())),
         Action::Part(kind) => part(output, kind),
         Action::Close => Ok(()),
         Action::Ack { table, number } => {

@@ -22,14 +22,14 @@ use crate::gate::Gate;
 use crate::reading::read_event;
 use crate::staying::performing::perform_all;
 use crate::staying::tally::Tally;
-use crate::tables::reopen;
+use crate::tables::{opened_with, reopen};
 use crate::turning::{are_pushes, first_event};
 use peers_devices::Faults;
 use session_core::{Action, Event, SessionError, Standing, Ticked};
 use std::io::{Read, Write};
 use std::sync::Wait;
 use table_shards::Seat;
-use table_types::Moment;
+use table_types::{Moment, Version};
 
 /// Gives the session an event, and returns what it asks for.
 fn give(session: &mut Standing, event: Event, now: Moment) -> Result<Vec<Action>, SessionError>
@@ -138,19 +138,20 @@ pub(crate) fn take_turn<H: Wait, G: Gate, R: Read + Faults, W: Write + Faults>(
     }
 }
 
-/// Closes the session in the tables and opens it anew, in order.
+/// Closes the session in the tables and opens it anew, with this version, in order.
 fn reopen_all<H: Wait, G>(
     context: &Context<H, G>,
     seat: &mut Seat,
     tables: &[u64],
+    version: Version,
 ) -> Result<(), EngineError>
     ensures seat { seat.new.number ≡ seat.old.number }
-    ensures reopened { OnOk result (AreReopened context.now.number seat.old tables.now seat.new) }
+    ensures reopened { OnOk result (AreReopened context.now.number version seat.old tables.now seat.new) }
     ensures refused { IfErr result IsRefusal }
-    ensures left { OnErr result (FailsToReopen context.now.number seat.old tables.now seat.new) }
+    ensures left { OnErr result (FailsToReopen context.now.number version seat.old tables.now seat.new) }
 {
     for table in tables {
-        reopen(context, seat, *table)?;
+        reopen(context, seat, *table, version)?;
     }
     Ok(())
 }
@@ -186,7 +187,12 @@ pub(crate) fn take_tick<H: Wait, G: Gate, W: Write + Faults>(
     let Ticked { left, actions } = give_tick(session, context.moment)?;
     let is_idle = left.is_empty() && actions.is_empty();
     tally.note_left(left.as_slice());
-    reopen_all(context, seat, left.as_slice())?;
+    reopen_all(
+        context,
+        seat,
+        left.as_slice(),
+        opened_with(session.version()),
+    )?;
     perform_all(context, session, output, seat, tally, actions)?;
     Ok(is_idle)
 }

@@ -1,30 +1,33 @@
-use Rattle.std.proofs.Common.{Some, refl}
+use Rattle.std.proofs.Common.{Some, refl, sym}
 use Rattle.std.proofs.lemmas.Result.{err_from_is_err_and}
 use Rattle.session_core.specs.declared.action.Action.TheVariants as actions
 use Rattle.session_core.specs.declared.event.Event.TheVariants as events
 use Rattle.teach_writer.specs.Pieces.{bytes_left}
 use Rattle.peers_engine.specs.declared.errors.EngineError.TheVariants as errors
-use Rattle.peers_engine.proofs.AnswerLaws.{falls_short, lesson_cut, refused_as}
+use Rattle.peers_engine.proofs.AnswerLaws.{falls_short, lesson_cut, lesson_from, refused_as}
 use Rattle.peers_engine.proofs.doing.teach_batch.Goals as goal
 
 pub returns-in_err-settle-clause-failed : goal.returns-in_err-settle-clause-failed
 returns-in_err-settle-clause-failed g c =
     let p = err_from_is_err_and c.from_residual-in_err-settle.result c.from_residual-in_err-settle.ensures.1 in
+    λ session same.
     rw (p.1, p.2)
-    (refused_as c.in_err-settle.field-0.0 c.args.context.now.number c.args.context.now.moment c.args.known.now c.args.seat.now c.settle.new.seat (actions.Teach c.args.batch.now) (g.W.Write.contents c.args.output.now) c.in_err-settle.ensures.refused tt c.in_err-settle.ensures.stays)
+    (refused_as c.in_err-settle.field-0.0 c.args.context.now.number c.args.context.now.moment session c.args.seat.now c.settle.new.seat (actions.Teach c.args.batch.now) (g.W.Write.contents c.args.output.now) c.in_err-settle.ensures.refused tt c.in_err-settle.ensures.stays)
 
 pub returns-in-Err-Write-clause-failed : goal.returns-in-Err-Write-clause-failed
 returns-in-Err-Write-clause-failed g c =
     let pieces = c.in_ok-pieces.pieces in
     let fault = c.in-Err-Write in
-    falls_short (errors.Write fault.sent) c.args.context.now.number c.args.context.now.moment c.args.known.now c.args.seat.now c.settle.new.seat (actions.Teach c.args.batch.now) (bytes_left pieces) (Some (events.Written pieces.known))
+    λ session same.
+    falls_short (errors.Write fault.sent) c.args.context.now.number c.args.context.now.moment session c.args.seat.now c.settle.new.seat (actions.Teach c.args.batch.now) (bytes_left pieces) (Some (events.Written pieces.known))
     (g.W.Write.contents c.args.output.now) (g.W.Write.contents c.write_pieces.new.output)
-    (pieces.known, c.in_ok-pieces.ensures.lesson, refl, c.in_ok-settle.ensures.settled) (rw fault.field-0-is at fault.ensures.within, rw fault.field-0-is at fault.ensures.sent)
+    (pieces.known, lesson_from c.args.known.now session.known c.args.batch.now (bytes_left pieces) pieces.known (sym same) c.in_ok-pieces.ensures.lesson, refl, c.in_ok-settle.ensures.settled) (rw fault.field-0-is at fault.ensures.within, rw fault.field-0-is at fault.ensures.sent)
 
 pub returns-in-Err-Memory-clause-failed : goal.returns-in-Err-Memory-clause-failed
 returns-in-Err-Memory-clause-failed g c =
     let pieces = c.in_ok-pieces.pieces in
     let fault = c.in-Err-Memory in
-    lesson_cut c.args.context.now.number c.args.context.now.moment c.args.known.now c.args.seat.now c.settle.new.seat c.args.batch.now (bytes_left pieces) (Some (events.Written pieces.known)) fault.field-0-0
+    λ session same.
+    lesson_cut c.args.context.now.number c.args.context.now.moment session c.args.seat.now c.settle.new.seat c.args.batch.now (bytes_left pieces) (Some (events.Written pieces.known)) fault.field-0-0
     (g.W.Write.contents c.args.output.now) (g.W.Write.contents c.write_pieces.new.output)
-    (pieces.known, c.in_ok-pieces.ensures.lesson, refl, c.in_ok-settle.ensures.settled) (rw fault.field-0-is at fault.ensures.within) (rw fault.field-0-is at fault.ensures.sent)
+    (pieces.known, lesson_from c.args.known.now session.known c.args.batch.now (bytes_left pieces) pieces.known (sym same) c.in_ok-pieces.ensures.lesson, refl, c.in_ok-settle.ensures.settled) (rw fault.field-0-is at fault.ensures.within) (rw fault.field-0-is at fault.ensures.sent)

@@ -1,8 +1,9 @@
-use Rattle.std.proofs.Common.{None, refl}
+use Rattle.std.proofs.Common.{◌∙◌, None, ap, refl, sym}
 use Rattle.std.proofs.lemmas.Result.{IfErr-weaker, err_from_is_err_and, on_ok_weaker}
 use Rattle.session_core.specs.declared.action.Action.TheVariants as actions
+use Rattle.peers_engine.specs.Calls.{opened_with}
 use Rattle.peers_engine.specs.Staying.{standing_worker}
-use Rattle.peers_engine.proofs.AnswerLaws.{close_done, part_done, part_falls, reopen_done, teach_fails}
+use Rattle.peers_engine.proofs.AnswerLaws.{close_done, part_done, part_falls, reopen_done}
 use Rattle.peers_engine.proofs.StayLaws.{ack_passed_on, batch_copied, bytes_sent, lesson_written, performed_and_told, performed_as, row_learned, silently_performed}
 use Rattle.peers_engine.proofs.UntilLaws.{bytes_fall, call_fails, failed_now, fails_at_once, is_untold, table_fails}
 use Rattle.peers_engine.proofs.staying.performing.perform.Goals as goal
@@ -40,7 +41,8 @@ returns-in-Reopen-clause-done g c =
     on_ok_weaker c.reopen.result
     (λ reopened. silently_performed (standing_worker c.args.session.now c.args.seat.now c.args.context.now.number c.args.context.now.moment) c.reopen.new.seat c.args.action c.args.given.now.items known known
     (performed_as (standing_worker c.args.session.now c.args.seat.now c.args.context.now.number c.args.context.now.moment) c.reopen.new.seat c.args.action act None known known c.in-Reopen.is
-    (reopen_done c.args.context.now.number c.args.context.now.moment c.args.session.now.session.known c.args.seat.now c.reopen.new.seat act c.in-Reopen.table known refl reopened)))
+    (reopen_done c.args.context.now.number c.args.context.now.moment c.args.session.now.session c.args.seat.now c.reopen.new.seat act c.in-Reopen.table c.opened_with.result known refl
+    (c.opened_with.ensures ∙ ap opened_with c.version.ensures) reopened)))
     c.reopen.ensures.reopened
 
 pub returns-in-Reopen-clause-failed : goal.returns-in-Reopen-clause-failed
@@ -57,7 +59,7 @@ returns-in-Part-clause-done g c =
     on_ok_weaker c.part.result
     (λ written. silently_performed (standing_worker c.args.session.now c.args.seat.now c.args.context.now.number c.args.context.now.moment) c.args.seat.now c.args.action c.args.given.now.items old new
     (performed_as (standing_worker c.args.session.now c.args.seat.now c.args.context.now.number c.args.context.now.moment) c.args.seat.now c.args.action act None old new c.in-Part.is
-    (part_done c.args.context.now.number c.args.context.now.moment c.args.session.now.session.known c.args.seat.now act c.in-Part.kind old new refl written)))
+    (part_done c.args.context.now.number c.args.context.now.moment c.args.session.now.session c.args.seat.now act c.in-Part.kind old new refl written)))
     c.part.ensures.ok
 
 pub returns-in-Part-clause-failed : goal.returns-in-Part-clause-failed
@@ -65,7 +67,7 @@ returns-in-Part-clause-failed g c =
     IfErr-weaker c.part.result _ _
     (λ error falls. fails_at_once (standing_worker c.args.session.now c.args.seat.now c.args.context.now.number c.args.context.now.moment) c.args.seat.now c.args.action error (g.W.Write.contents c.args.output.now) (g.W.Write.contents c.part.new.output)
     (failed_now (standing_worker c.args.session.now c.args.seat.now c.args.context.now.number c.args.context.now.moment) c.args.seat.now c.args.action (actions.Part c.in-Part.kind) error (g.W.Write.contents c.args.output.now) (g.W.Write.contents c.part.new.output) c.in-Part.is
-    (part_falls c.args.context.now.number c.args.context.now.moment c.args.session.now.session.known c.args.seat.now (actions.Part c.in-Part.kind) c.in-Part.kind error (g.W.Write.contents c.args.output.now) (g.W.Write.contents c.part.new.output) refl falls)))
+    (part_falls c.args.context.now.number c.args.context.now.moment c.args.session.now.session c.args.seat.now (actions.Part c.in-Part.kind) c.in-Part.kind error (g.W.Write.contents c.args.output.now) (g.W.Write.contents c.part.new.output) refl falls)))
     c.part.ensures.failed
 
 pub returns-in-Close-clause-done : goal.returns-in-Close-clause-done
@@ -73,7 +75,7 @@ returns-in-Close-clause-done g c =
     let known = g.W.Write.contents c.args.output.now in
     silently_performed (standing_worker c.args.session.now c.args.seat.now c.args.context.now.number c.args.context.now.moment) c.args.seat.now c.args.action c.args.given.now.items known known
     (performed_as (standing_worker c.args.session.now c.args.seat.now c.args.context.now.number c.args.context.now.moment) c.args.seat.now c.args.action actions.Close None known known c.in-Close.is
-    (close_done c.args.context.now.number c.args.context.now.moment c.args.session.now.session.known c.args.seat.now actions.Close known refl))
+    (close_done c.args.context.now.number c.args.context.now.moment c.args.session.now.session c.args.seat.now actions.Close known refl))
 
 pub returns-in_err-answer-in-Ack-clause-failed : goal.returns-in_err-answer-in-Ack-clause-failed
 returns-in_err-answer-in-Ack-clause-failed g c =
@@ -123,7 +125,7 @@ returns-in_err-answer-in-Teach-clause-failed g c =
     rw (p.1, p.2)
     (fails_at_once (standing_worker c.args.session.now c.args.seat.now c.args.context.now.number c.args.context.now.moment) c.teach_batch.new.seat c.args.action c.in_err-answer-in-Teach.field-0.0 (g.W.Write.contents c.args.output.now) (g.W.Write.contents c.teach_batch.new.output)
     (failed_now (standing_worker c.args.session.now c.args.seat.now c.args.context.now.number c.args.context.now.moment) c.teach_batch.new.seat c.args.action (actions.Teach c.in-Teach.batch) c.in_err-answer-in-Teach.field-0.0 (g.W.Write.contents c.args.output.now) (g.W.Write.contents c.teach_batch.new.output) c.in-Teach.is
-    (teach_fails c.args.context.now.number c.args.context.now.moment c.known.result.now c.args.session.now.session.known c.args.seat.now c.teach_batch.new.seat (actions.Teach c.in-Teach.batch) c.in-Teach.batch (g.W.Write.contents c.args.output.now) (g.W.Write.contents c.teach_batch.new.output) c.in_err-answer-in-Teach.field-0.0 refl c.known.ensures c.in_err-answer-in-Teach.ensures.failed)))
+    (c.in_err-answer-in-Teach.ensures.failed c.args.session.now.session (sym c.known.ensures))))
 
 pub returns-in_ok-answer-in-Teach-clause-done : goal.returns-in_ok-answer-in-Teach-clause-done
 returns-in_ok-answer-in-Teach-clause-done g c =

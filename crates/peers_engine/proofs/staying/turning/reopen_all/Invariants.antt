@@ -6,7 +6,7 @@ use Rattle.peers_engine.proofs.staying.turning.reopen_all.Given as goal
 -- once the session is reopened in the tables that are left, it is in all; if it isn't in one of those, it isn't in one of all
 abbrev pub invariant-loop-table : goal.invariant-loop-table
 invariant-loop-table g l = record {
-  reopened : (t : SeatState) → AreReopened l.context.number l.seat (drop l.table-index l.tables) t → AreReopened l.context.number l.fn.seat l.tables t;
-  left : (t : SeatState) → FailsToReopen l.context.number l.seat (drop l.table-index l.tables) t → FailsToReopen l.context.number l.fn.seat l.tables t;
+  reopened : (t : SeatState) → AreReopened l.context.number l.version l.seat (drop l.table-index l.tables) t → AreReopened l.context.number l.version l.fn.seat l.tables t;
+  left : (t : SeatState) → FailsToReopen l.context.number l.version l.seat (drop l.table-index l.tables) t → FailsToReopen l.context.number l.version l.fn.seat l.tables t;
   seat : l.seat.number ≡ l.fn.seat.number;
 }

@@ -1,6 +1,8 @@
-use Rattle.std.proofs.Common.{ℕ, List, refl, subst}
+use Rattle.std.proofs.Common.{◌∙◌, ℕ, List, ap, refl, subst}
 use Rattle.std.proofs.lemmas.Result.{err_from_is_err_and}
 use Rattle.peers_engine.specs.declared.errors.EngineError.TheVariants as errors
+use Rattle.table_types.specs.declared.version.Version.{Version}
+use Rattle.peers_engine.specs.Calls.{opened_with}
 use Rattle.peers_engine.specs.Staying.{AreReopened, FailsToReopen, standing_worker}
 use Rattle.peers_engine.proofs.StayLaws.{ticked}
 use Rattle.peers_engine.proofs.UntilLaws.{tick_fails, tick_left, tick_refused}
@@ -14,7 +16,8 @@ returns-clause-done g c =
     c.give_tick.new.session c.reopen_all.new.seat given.left.items given.actions.items c.in_ok-perform_all.field-0.items
     (contents c.args.output.now) (contents c.perform_all.new.output)
     c.in_ok-left.ensures.ticks
-    (subst (λ (x : List ℕ). AreReopened c.args.context.now.number c.args.seat.now x c.reopen_all.new.seat) c.as_slice-2.ensures.value c.in_ok-reopen_all.ensures.reopened)
+    (subst (λ (v : Version). AreReopened c.args.context.now.number v c.args.seat.now given.left.items c.reopen_all.new.seat) (c.opened_with.ensures ∙ ap opened_with c.version.ensures)
+    (subst (λ (x : List ℕ). AreReopened c.args.context.now.number c.opened_with.result c.args.seat.now x c.reopen_all.new.seat) c.as_slice-2.ensures.value c.in_ok-reopen_all.ensures.reopened))
     c.in_ok-perform_all.ensures.done
 
 pub returns-in_err-left-clause-failed : goal.returns-in_err-left-clause-failed
@@ -30,7 +33,8 @@ returns-in_err-reopen_all-clause-failed g c =
     rw (p.1, p.2)
     (tick_left (standing_worker c.args.session.now c.args.seat.now c.args.context.now.number c.args.context.now.moment) c.give_tick.new.session c.reopen_all.new.seat given.left.items given.actions.items c.in_err-reopen_all.field-0.0 (g.W.Write.contents c.args.output.now)
     c.in_ok-left.ensures.ticks c.in_err-reopen_all.ensures.refused
-    (subst (λ (x : List ℕ). FailsToReopen c.args.context.now.number c.args.seat.now x c.reopen_all.new.seat) c.as_slice-2.ensures.value c.in_err-reopen_all.ensures.left))
+    (subst (λ (v : Version). FailsToReopen c.args.context.now.number v c.args.seat.now given.left.items c.reopen_all.new.seat) (c.opened_with.ensures ∙ ap opened_with c.version.ensures)
+    (subst (λ (x : List ℕ). FailsToReopen c.args.context.now.number c.opened_with.result c.args.seat.now x c.reopen_all.new.seat) c.as_slice-2.ensures.value c.in_err-reopen_all.ensures.left)))
 
 pub returns-in_err-perform_all-clause-failed : goal.returns-in_err-perform_all-clause-failed
 returns-in_err-perform_all-clause-failed g c =
@@ -41,5 +45,6 @@ returns-in_err-perform_all-clause-failed g c =
     (tick_fails (standing_worker c.args.session.now c.args.seat.now c.args.context.now.number c.args.context.now.moment) c.give_tick.new.session c.perform_all.new.session.session c.reopen_all.new.seat c.perform_all.new.seat given.left.items given.actions.items c.in_err-perform_all.field-0.0
     (contents c.args.output.now) (contents c.perform_all.new.output)
     c.in_ok-left.ensures.ticks
-    (subst (λ (x : List ℕ). AreReopened c.args.context.now.number c.args.seat.now x c.reopen_all.new.seat) c.as_slice-2.ensures.value c.in_ok-reopen_all.ensures.reopened)
+    (subst (λ (v : Version). AreReopened c.args.context.now.number v c.args.seat.now given.left.items c.reopen_all.new.seat) (c.opened_with.ensures ∙ ap opened_with c.version.ensures)
+    (subst (λ (x : List ℕ). AreReopened c.args.context.now.number c.opened_with.result c.args.seat.now x c.reopen_all.new.seat) c.as_slice-2.ensures.value c.in_ok-reopen_all.ensures.reopened))
     c.in_err-perform_all.ensures.failed)
