@@ -2,6 +2,7 @@ mod AuditingLaws
 mod CountLaws
 mod Crosses
 mod EndingLaws
+mod FallingBackLaws
 mod Lists
 mod LoadingLaws
 mod NodeLaws

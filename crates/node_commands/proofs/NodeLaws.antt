@@ -1,5 +1,5 @@
 -- What a node has, and what it prints.
-use Rattle.std.proofs.Common.{◌≡◌, ◌≤◌, ℕ, true, false, List, [], ◌∷◌, Option, subst, sym}
+use Rattle.std.proofs.Common.{◌≡◌, ◌≤◌, ◌+◌, ◌-◌, ℕ, true, false, List, [], ◌∷◌, Option, Some, None, subst, sym}
 use Rattle.std.specs.Prelude.{Err, IfOk, Ok, Result}
 use Rattle.std.specs.Io.KnownBytes.{Appends, Consumes}
 use Rattle.table_types.specs.Tables.{Definition}
@@ -15,7 +15,7 @@ use Rattle.node_commands.specs.declared.node.Node.{Node}
 use Rattle.node_commands.specs.declared.node.Report.{Report}
 use Rattle.node_commands.specs.Auditing.{IsAuditOf}
 use Rattle.node_commands.specs.Loading.{AreOpened}
-use Rattle.node_commands.specs.Nodes.{IsJoining, IsPrinted, IsServing}
+use Rattle.node_commands.specs.Nodes.{IsJoining, IsPrinted, IsServing, IsTold, hello_of}
 use Rattle.node_commands.specs.Printing.{IsText}
 use Rattle.node_commands.specs.Turning.{Plays}
 use Rattle.node_commands.proofs.TurningLaws.{IsPlayed}
@@ -23,49 +23,58 @@ use Rattle.node_commands.proofs.TurningLaws.{IsPlayed}
 -- the node that serves the scene
 pub serving_with : (scene : Scene) (name peer : List ℕ) (n : Node) (roster : List Definition) → AreInRisingId scene.tables.items roster
     → AreOpened 1 roster scene.updates.items n.tables → n.worker ≡ record { session = accepting name (peer ∷ []) roster true; seat = fresh_seat 2; number = 1 }
-    → n.pace ≡ record { leaves = false; stands = false } → IsServing scene name peer n
+    → n.pace ≡ record { leaves = false; stands = false; taken = 0 } → n.fallback ≡ None → IsServing scene name peer n
 unfolding IsServing
-serving_with scene name peer n roster rising opened worker pace = (roster, rising, opened, worker, pace)
+serving_with scene name peer n roster rising opened worker pace alone = (roster, rising, opened, worker, pace, alone)
 
 -- the node that joins with the scene's tables
 pub joining_with : (scene : Scene) (name peer : List ℕ) (n : Node) (roster : List Definition) → AreInRisingId scene.tables.items roster
     → AreOpened 1 roster [] n.tables
-    → n.worker ≡ record { session = connecting (record { remote = peer; local = name; pid = 1; relative = 1; version = versions.V21 }) roster false; seat = fresh_seat 2; number = 1 }
-    → n.pace ≡ record { leaves = true; stands = false } → IsJoining scene name peer n
+    → n.worker ≡ record { session = connecting (hello_of name peer versions.V21) roster false; seat = fresh_seat 2; number = 1 }
+    → n.pace ≡ record { leaves = true; stands = false; taken = 0 } → n.fallback ≡ Some (connecting (hello_of name peer versions.V20) roster false) → IsJoining scene name peer n
 unfolding IsJoining
-joining_with scene name peer n roster rising opened worker pace = (roster, rising, opened, worker, pace)
+joining_with scene name peer n roster rising opened worker pace next = (roster, rising, opened, worker, pace, next)
 
 -- ---- what is printed
 
--- the text of an audit with the seat of the only session
-abbrev pub IsTold : Node → Worker → ℕ → Report → Type 0
-IsTold n e made report = (a : AuditState) × IsAuditOf n.tables (e.seat ∷ []) a × IsText made a.unlocked.tables report.text.items
+-- the text of an audit with the seat of the last session, after `taken` turns in all
+abbrev pub IsAudited : Node → Worker → ℕ → Report → Type 0
+IsAudited n e taken report = (a : AuditState) × IsAuditOf n.tables (e.seat ∷ []) a × IsText taken a.unlocked.tables report.text.items
+
+pub audited_told : (n : Node) (e : Worker) (made taken : ℕ) (report : Report) → taken ≡ n.pace.taken + made → IsAudited n e taken report → IsTold n made e report.text.items
+audited_told n e made taken report is (a, audit, text) = (a, audit, subst (λ (k : ℕ). IsText k a.unlocked.tables report.text.items) is text)
 
 printed_of : (n : Node) (e : Worker) (turns made : ℕ) (ending : Ending) (received sent : List ℕ) (report : Report)
-    → Plays n.pace 0 n.worker turns made ending received sent e → made ≤ turns → IsTold n e made report → IsPrinted n turns ending received sent report.text.items
+    → Plays n.pace 0 n.worker (turns - n.pace.taken) made ending received sent e → made ≤ turns - n.pace.taken → IsTold n made e report.text.items → IsPrinted n turns ending received sent report.text.items
 unfolding IsPrinted
-printed_of n e turns made ending received sent report plays within (a, audit, text) = (made, e, a, plays, within, audit, text)
+printed_of n e turns made ending received sent report plays within told = (made, e, (plays, within), told)
 
 -- what the turns received and sent, and the report after them
 abbrev IsReported : Node → ℕ → Option (List ℕ) → Option (List ℕ) → Option (List ℕ) → Option (List ℕ) → Report → Type 0
 IsReported n turns from to a b report =
     (received sent : List ℕ) × IsPrinted n turns report.ending received sent report.text.items × Consumes from to received × Appends a b sent
 
-reported_of : (n : Node) (e : Worker) (turns made : ℕ) (ending : Ending) (report : Report) (from to a b : Option (List ℕ))
-    → IsPlayed n.pace n.worker turns made ending e from to a b → made ≤ turns → IsTold n e made report → report.ending ≡ ending → IsReported n turns from to a b report
-reported_of n e turns made ending report from to a b (received, sent, plays, consumed, appended) within told same = (
+reported_of : (n : Node) (e : Worker) (turns most made taken : ℕ) (ending : Ending) (report : Report) (from to a b : Option (List ℕ))
+    → most ≡ turns - n.pace.taken → taken ≡ n.pace.taken + made
+    → IsPlayed n.pace n.worker most made ending e from to a b → made ≤ most → IsAudited n e taken report → report.ending ≡ ending → IsReported n turns from to a b report
+reported_of n e turns most made taken ending report from to a b is_most is_taken (received, sent, plays, consumed, appended) within audited same = (
   received,
   sent,
   subst (λ (x : Ending). IsPrinted n turns x received sent report.text.items) (sym same)
-      (printed_of n e turns made ending received sent report plays within told),
+      (printed_of n e turns made ending received sent report
+      (subst (λ (m : ℕ). Plays n.pace 0 n.worker m made ending received sent e) is_most plays)
+      (subst (λ (m : ℕ). made ≤ m) is_most within)
+      (audited_told n e made taken report is_taken audited)),
   consumed,
   appended,
 )
 
 -- the same of a report that may be missing
-pub report_printed : (n : Node) (e : Worker) (turns made : ℕ) (ending : Ending) (r : Result Report Ending) (from to a b : Option (List ℕ))
-    → IsPlayed n.pace n.worker turns made ending e from to a b → made ≤ turns
-    → IfOk r (IsTold n e made) → IfOk r (λ report. report.ending ≡ ending)
+pub report_printed : (n : Node) (e : Worker) (turns most made taken : ℕ) (ending : Ending) (r : Result Report Ending) (from to a b : Option (List ℕ))
+    → most ≡ turns - n.pace.taken → taken ≡ n.pace.taken + made
+    → IsPlayed n.pace n.worker most made ending e from to a b → made ≤ most
+    → IfOk r (IsAudited n e taken) → IfOk r (λ report. report.ending ≡ ending)
     → IfOk r (λ report. (received sent : List ℕ) × IsPrinted n turns report.ending received sent report.text.items × Consumes from to received × Appends a b sent)
-report_printed n e turns made ending (Ok report) from to a b played within told same = reported_of n e turns made ending report from to a b played within told same
-report_printed n e turns made ending (Err error) from to a b played within told same = tt
+report_printed n e turns most made taken ending (Ok report) from to a b is_most is_taken played within audited same =
+    reported_of n e turns most made taken ending report from to a b is_most is_taken played within audited same
+report_printed n e turns most made taken ending (Err error) from to a b is_most is_taken played within audited same = tt

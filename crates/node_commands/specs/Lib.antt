@@ -1,4 +1,5 @@
 pub mod Auditing
+pub mod FallingBack
 pub mod Loading
 pub mod Nodes
 pub mod Printing

@@ -1,10 +1,12 @@
 -- Nodes that meet, and what they print (profile).
-use Rattle.std.specs.Prelude.{◌≡◌, ◌≢◌, ◌≤◌, ℕ, Bool, true, false, List, [], ◌∷◌, length, take, Option}
+use Rattle.std.specs.Prelude.{◌≡◌, ◌≢◌, ◌≤◌, ◌+◌, ◌-◌, ℕ, Bool, true, false, List, [], ◌∷◌, length, take, Option, Some, None}
 use Rattle.std.specs.Io.KnownBytes.{Appends}
 use Rattle.table_types.specs.Tables.{Definition}
+use Rattle.table_types.specs.declared.version.Version.{Version}
 use Rattle.table_types.specs.declared.version.Version.TheVariants as versions
 use Rattle.table_shards.specs.Receipts.{fresh_seat}
 use Rattle.table_shards.specs.Audits.{AuditState}
+use Rattle.peers_hello.specs.declared.hello.Hello.{Hello}
 use Rattle.session_core.specs.Sessions.{accepting, connecting}
 use Rattle.peers_engine.specs.declared.worker.Worker.{Worker}
 use Rattle.node_text.specs.declared.scenes.Scene.{Scene}
@@ -28,29 +30,38 @@ IsServing scene name peer n =
     × AreInRisingId scene.tables.items roster
     × AreOpened 1 roster scene.updates.items n.tables
     × (n.worker ≡ record { session = accepting name (peer ∷ []) roster true; seat = fresh_seat 2; number = 1 })
-    × (n.pace ≡ record { leaves = false; stands = false })
+    × (n.pace ≡ record { leaves = false; stands = false; taken = 0 })
+    × (n.fallback ≡ None)
 
--- A node that connects to the peer. It has the scene's tables in ascending order of their ids, without rows. Its only session has
--- number 1 in them and the second seat, isn't up to date, and leaves once it has sent `resync confirmed`.
+-- the hello of the node `name` to the peer
+abbrev pub hello_of : List ℕ → List ℕ → Version → Hello
+hello_of name peer version = record { remote = peer; local = name; pid = 1; relative = 1; version = version }
+
+-- A node that connects to the peer. It has the scene's tables in ascending order of their ids, without rows. Its session has number
+-- 1 in them and the second seat, isn't up to date, and leaves once it has sent `resync confirmed`. It says version 2.1 in its hello;
+-- the session that follows it if it falls back says 2.0, and is else the same.
 unfoldable pub IsJoining : Scene → List ℕ → List ℕ → Node → Type 0
 IsJoining scene name peer n =
     (roster : List Definition)
     × AreInRisingId scene.tables.items roster
     × AreOpened 1 roster [] n.tables
-    × (n.worker ≡ record { session = connecting (record { remote = peer; local = name; pid = 1; relative = 1; version = versions.V21 }) roster false; seat = fresh_seat 2; number = 1 })
-    × (n.pace ≡ record { leaves = true; stands = false })
+    × (n.worker ≡ record { session = connecting (hello_of name peer versions.V21) roster false; seat = fresh_seat 2; number = 1 })
+    × (n.pace ≡ record { leaves = true; stands = false; taken = 0 })
+    × (n.fallback ≡ Some (connecting (hello_of name peer versions.V20) roster false))
 
--- What a node prints after a session of at most `turns` turns, which received and sent the bytes given: how many turns it made, and
--- the rows of the node's tables, as an audit found them with the seat that loaded them and the session's seat after its turns.
+-- Over a connection, a node's session made `made` turns, received and sent the bytes given, and left the worker as `e`. It made at most
+-- `turns` turns, together with those of an earlier session.
+abbrev pub HasMet : Node → ℕ → ℕ → Ending → List ℕ → List ℕ → Worker → Type 0
+HasMet n turns made ending received sent e = Plays n.pace 0 n.worker (turns - n.pace.taken) made ending received sent e × (made ≤ turns - n.pace.taken)
+
+-- What is printed then: how many turns the node's sessions made, and the rows of its tables, as an audit found them with the seat that
+-- loaded them and the session's seat after its turns.
+abbrev pub IsTold : Node → ℕ → Worker → List ℕ → Type 0
+IsTold n made e text = (a : AuditState) × IsAuditOf n.tables (e.seat ∷ []) a × IsText (n.pace.taken + made) a.unlocked.tables text
+
+-- what a node prints after its last or only connection
 unfoldable pub IsPrinted : Node → ℕ → Ending → List ℕ → List ℕ → List ℕ → Type 0
-IsPrinted n turns ending received sent text =
-    (made : ℕ)
-    × (e : Worker)
-    × (a : AuditState)
-    × Plays n.pace 0 n.worker turns made ending received sent e
-    × (made ≤ turns)
-    × IsAuditOf n.tables (e.seat ∷ []) a
-    × IsText made a.unlocked.tables text
+IsPrinted n turns ending received sent text = (made : ℕ) × (e : Worker) × HasMet n turns made ending received sent e × IsTold n made e text
 
 -- What a node prints that serves the scene in one session; in several; and in as many as the link has.
 abbrev pub IsServedAlone : Scene → Link → Ending → List ℕ → Type 0
@@ -62,11 +73,6 @@ IsServedShared scene link ending text = (n : Server) × IsServer scene link.name
 
 abbrev pub IsServed : Scene → Link → Ending → List ℕ → Type 0
 IsServed scene link ending text = (link.sessions ≡ 1 → IsServedAlone scene link ending text) × (link.sessions ≢ 1 → IsServedShared scene link ending text)
-
--- what a node prints that joins with the scene
-abbrev pub IsJoined : Scene → Link → Ending → List ℕ → Type 0
-IsJoined scene link ending text =
-    (n : Node) × (received sent : List ℕ) × IsJoining scene link.name link.peer n × IsPrinted n link.turns ending received sent text
 
 -- some of the text is appended: none, all, or the beginning of it
 abbrev pub AppendsSome : Option (List ℕ) → Option (List ℕ) → List ℕ → Type 0

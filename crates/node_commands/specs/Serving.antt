@@ -8,5 +8,5 @@ use Rattle.node_commands.specs.Turning.{Plays}
 abbrev pub HasServed : ℕ → Worker → Served → Type 0
 HasServed turns w s =
     (received sent : List ℕ)
-    × Plays (record { leaves = false; stands = true }) 0 w turns s.played.turns s.played.ending received sent s.worker
+    × Plays (record { leaves = false; stands = true; taken = 0 }) 0 w turns s.played.turns s.played.ending received sent s.worker
     × (s.played.turns ≤ turns)

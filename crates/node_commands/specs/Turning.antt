@@ -40,10 +40,10 @@ ending_after leaves s (Ok turned.Going) = if leaves && s.confirmed then Some end
 ending_after leaves s (Ok turned.Closed) = Some (closed_by s.fault)
 ending_after leaves s (Err error) = Some (broken_by s.fault error)
 
--- The moment of the turn that follows `before` others: each comes a millisecond after the one before, and the first a millisecond
--- after the rows were loaded; or all come at that very moment.
+-- The moment of the turn that follows `before` others, and those of an earlier session: each comes a millisecond after the one
+-- before, and the first of all a millisecond after the rows were loaded; or all come at that very moment.
 abbrev pub moment_of : Pace → ℕ → ℕ
-moment_of pace before = if pace.stands then loaded_at else later_by (before + 1) loaded_at
+moment_of pace before = if pace.stands then loaded_at else later_by (pace.taken + (before + 1)) loaded_at
 
 -- the worker in a turn at a moment, and in the turn that follows `before` others
 abbrev pub turn_at : ℕ → Worker → WorkerAt

@@ -1,6 +1,7 @@
 //! A node that meets another: its tables, its session, and what it prints once the session is over.
 
 mod auditing;
+mod falling_back;
 mod loading;
 mod server;
 mod sharing;
@@ -10,13 +11,13 @@ mod turns;
 ghost use Rattle.std.specs.Prelude.{◌≡◌, ◌≢◌, ◌⊎◌, ◌∷◌, [], ℕ, List, true, false, IfErr, IfOk, string_bytes};
 ghost use Rattle.std.specs.Io.KnownBytes.{Appends, Consumes};
 ghost use Rattle.node_text.specs.declared.scenes.Scene.{Scene};
-ghost use Rattle.table_types.specs.declared.version.Version.TheVariants as versions;
 ghost use Rattle.text_commands.specs.Endings.{IsEarly, line_of};
+ghost use Rattle.table_types.specs.declared.version.Version.TheVariants as versions;
 ghost use Rattle.text_commands.specs.declared.endings.Ending.TheVariants as endings;
 ghost use Rattle.session_core.specs.Sessions.{connecting};
 ghost use Rattle.table_shards.specs.Audits.{AuditState};
 ghost use Rattle.node_commands.specs.Auditing.{IsAuditOf};
-ghost use Rattle.node_commands.specs.Nodes.{AppendsSome, IsJoining, IsPrinted, IsServing, has_rows, is_told};
+ghost use Rattle.node_commands.specs.Nodes.{AppendsSome, IsJoining, IsPrinted, IsServing, has_rows, hello_of, is_told};
 ghost use Rattle.node_commands.specs.Printing.{IsText};
 
 use crate::node::auditing::audited;
@@ -24,6 +25,7 @@ use crate::node::loading::{NodeTables, SESSION, opened};
 use crate::node::sharing::Served;
 use crate::node::turns::{Pace, Turns, play};
 use crate::printing::session_text;
+pub use falling_back::Meeting;
 use node_text::{Scene, read_scene};
 use peers_devices::{Faults, read_to_end, write_all};
 use peers_engine::Worker;
@@ -45,6 +47,8 @@ pub struct Node {
     pub(crate) tables: NodeTables,
     pub(crate) worker: Worker,
     pub(crate) pace: Pace,
+    /// The session of another connection, if the other node refuses the version of the first one's hello.
+    pub(crate) fallback: Option<Session>,
 }
 
 /// What a node has to print once its session is over: a text for the output, and the line of the ending for the writer for
@@ -100,22 +104,44 @@ fn serving_of<H: Wait>(
         pace: Pace {
             leaves: false,
             stands: false,
+            taken: 0,
         },
+        fallback: None,
     })
 }
 
-/// Makes the session of a node that joins: it isn't up to date.
-fn joining_session(alloc: Global, name: Name, peer: Name, roster: Roster) -> Result<Session, Memory>
-    ensures { IfOk result (λ session. session ≡ connecting (record { remote = peer; local = name; pid = 1; relative = 1; version = versions.V21 }) roster false) }
+/// Makes a session of a node that joins, which says this version. It isn't up to date.
+fn joining_session(
+    alloc: Global,
+    name: &Name,
+    peer: &Name,
+    roster: &Roster,
+    version: Version,
+) -> Result<Session, Memory>
+    ensures { IfOk result (λ session. session ≡ connecting (hello_of name.now peer.now version) roster.now false) }
 {
     let hello = Hello {
-        remote: peer,
-        local: name,
+        remote: peer.copy(alloc)?,
+        local: name.copy(alloc)?,
         pid: 1,
         relative: 1,
-        version: Version::V21,
+        version,
     };
-    Session::connect(alloc, hello, roster, false)
+    Session::connect(alloc, hello, roster.copy(alloc)?, false)
+}
+
+/// Makes the sessions of a node that joins: one that says version 2.1, and one that says 2.0, which follows if the first falls back.
+fn joining_sessions(
+    alloc: Global,
+    name: &Name,
+    peer: &Name,
+    roster: &Roster,
+) -> Result<(Session, Session), Memory>
+    ensures { IfOk result (λ sessions. (sessions.0 ≡ connecting (hello_of name.now peer.now versions.V21) roster.now false) × (sessions.1 ≡ connecting (hello_of name.now peer.now versions.V20) roster.now false)) }
+{
+    let session = joining_session(alloc, name, peer, roster, Version::V21)?;
+    let fallback = joining_session(alloc, name, peer, roster, Version::V20)?;
+    Ok((session, fallback))
 }
 
 /// Makes the node that joins with the tables of `scene`.
@@ -123,11 +149,11 @@ fn joining_session(alloc: Global, name: Name, peer: Name, roster: Roster) -> Res
 fn joining_of<H: Wait>(
     rt: &H,
     alloc: Global,
-    name: Name,
-    peer: Name,
+    name: &Name,
+    peer: &Name,
     scene: Scene,
 ) -> Result<Node, Ending>
-    ensures node { IfOk result (λ node. IsJoining scene name peer node) }
+    ensures node { IfOk result (λ node. IsJoining scene name.now peer.now node) }
     ensures early { IfErr result IsEarly }
 {
     let Scene {
@@ -137,7 +163,7 @@ fn joining_of<H: Wait>(
     let roster = rising_roster(definitions)?;
     let shared = roster.copy(alloc)?;
     let (tables, mut seats) = opened(rt, alloc, roster, &[], 1)?;
-    let session = joining_session(alloc, name, peer, shared)?;
+    let (session, fallback) = joining_sessions(alloc, name, peer, &shared)?;
     let worker = Worker {
         session,
         seat: seats.remove(0),
@@ -149,7 +175,9 @@ fn joining_of<H: Wait>(
         pace: Pace {
             leaves: true,
             stands: false,
+            taken: 0,
         },
+        fallback: Some(fallback),
     })
 }
 
@@ -200,11 +228,16 @@ fn text_of(
     Ok(text)
 }
 
-/// Makes the report of the only session, which is over: the number of its turns, and the rows that the tables now have, once they are
-/// audited with its seat. Fails with the session's ending if no rows are printed after it, with `Device` if the audit finds a fault,
-/// and with `Memory` if memory runs out.
-fn report_of(alloc: Global, tables: NodeTables, served: Served) -> Result<Report, Ending>
-    ensures text { IfOk result (λ report. (a : AuditState) × IsAuditOf tables (served.worker.seat ∷ []) a × IsText served.played.turns a.unlocked.tables report.text.items) }
+/// Makes the report of the last session, which is over: the number of turns that the node took, and the rows that the tables now have,
+/// once they are audited with the session's seat. Fails with the session's ending if no rows are printed after it, with `Device` if the
+/// audit finds a fault, and with `Memory` if memory runs out.
+fn report_of(
+    alloc: Global,
+    tables: NodeTables,
+    served: Served,
+    turns: u32,
+) -> Result<Report, Ending>
+    ensures text { IfOk result (λ report. (a : AuditState) × IsAuditOf tables (served.worker.seat ∷ []) a × IsText turns a.unlocked.tables report.text.items) }
     ensures ending { IfOk result (λ report. report.ending ≡ served.played.ending) }
     ensures early { IfErr result (λ ending. (ending ≡ endings.Memory) ⊎ (ending ≡ endings.Device)) }
 {
@@ -215,7 +248,7 @@ fn report_of(alloc: Global, tables: NodeTables, served: Served) -> Result<Report
     }
     let mut seats = Vec::with_capacity(alloc, 1)?;
     seats.push(worker.seat).map_err(Memory::from)?;
-    let text = text_of(alloc, tables, seats, played.turns)?;
+    let text = text_of(alloc, tables, seats, turns)?;
     let line = ending.line(alloc)?;
     Ok(Report { text, ending, line })
 }
@@ -240,7 +273,8 @@ impl Node {
     }
 
     /// Makes the node `name` that connects to `peer`. Reads a scene from `input`: the node has the scene's tables, without rows.
-    /// Its session isn't up to date: it requests a resync, and ends once it has confirmed it. Fails as `serving` does.
+    /// Its session isn't up to date: it requests a resync, and ends once it has confirmed it. It says version 2.1, and has another
+    /// session ready that says 2.0. Fails as `serving` does.
     pub fn joining<H: Wait, I: Read + Faults>(
         rt: &H,
         alloc: Global,
@@ -252,13 +286,13 @@ impl Node {
         ensures early { IfErr result IsEarly }
     {
         let scene = scene_of(alloc, input)?;
-        let node = joining_of(rt, alloc, name, peer, scene)?;
+        let node = joining_of(rt, alloc, &name, &peer, scene)?;
         Ok(node)
     }
 
-    /// Runs the session with the other node for at most `turns` turns, audits the tables, and returns what is to be printed. `from`
-    /// reads what the other node sends, and `to` writes what it receives. Fails with `Device` if a read or a write fails or the audit
-    /// finds a fault, and with `Memory` if memory runs out: then nothing is printed.
+    /// Runs the session with the other node for at most `turns` turns, those of an earlier session included, audits the tables, and
+    /// returns what is to be printed. `from` reads what the other node sends, and `to` writes what it receives. Fails with `Device` if
+    /// a read or a write fails or the audit finds a fault, and with `Memory` if memory runs out: then nothing is printed.
     pub fn meet<H: Wait, R: Read + Faults, W: Write + Faults>(
         self,
         rt: &H,
@@ -276,10 +310,13 @@ impl Node {
             tables,
             mut worker,
             pace,
+            ..
         } = self;
-        let asked = Turns { pace, most: turns };
+        let most = turns.saturating_sub(pace.taken);
+        let asked = Turns { pace, most };
         let played = play(rt, alloc, &tables.shards, &mut worker, asked, from, to);
-        report_of(alloc, tables, Served { worker, played })
+        let taken = pace.taken + played.turns;
+        report_of(alloc, tables, Served { worker, played }, taken)
     }
 }
 

@@ -7,11 +7,12 @@ ghost use Rattle.text_commands.specs.Endings.{IsEarly, line_of};
 ghost use Rattle.text_commands.specs.declared.endings.Ending.{Ending};
 ghost use Rattle.text_commands.specs.declared.endings.Ending.TheVariants as endings;
 ghost use Rattle.node_commands.specs.declared.node.Report.{Report};
-ghost use Rattle.node_commands.specs.Nodes.{AppendsSome, HasRows, IsJoined, IsPrinted, IsServed, IsServedAlone, IsServedShared};
+ghost use Rattle.node_commands.specs.FallingBack.{IsJoined, IsMeeting};
+ghost use Rattle.node_commands.specs.Nodes.{AppendsSome, HasRows, IsPrinted, IsServed, IsServedAlone, IsServedShared};
 ghost use Rattle.node_commands.specs.Sharing.{IsShared};
 
 use crate::link::Link;
-use crate::node::{Node, Report, Server, serve_all, total_of};
+use crate::node::{Meeting, Node, Report, Server, serve_all, total_of};
 use peers_devices::{Counting, Faults};
 use std::alloc::Global;
 use std::io;
@@ -68,6 +69,29 @@ fn met<H: Wait>(
 {
     match stream {
         Ok(stream) => node.meet(
+            rt,
+            alloc,
+            turns,
+            &mut Counting::new(&stream),
+            &mut Counting::new(&stream),
+        ),
+        Err(_) => Err(Ending::Device),
+    }
+}
+
+/// Runs a node's first session over `stream`, and closes it. Fails with `Device` if there is no connection.
+fn met_first<H: Wait>(
+    rt: &H,
+    alloc: Global,
+    node: Node,
+    turns: u32,
+    stream: io::Result<TcpStream>,
+) -> Result<Meeting, Ending>
+    ensures met { IfOk result (λ meeting. (received sent : List ℕ) × IsMeeting node turns meeting received sent) }
+    ensures early { IfErr result IsEarly }
+{
+    match stream {
+        Ok(stream) => node.meet_or_fall_back(
             rt,
             alloc,
             turns,
@@ -147,7 +171,7 @@ fn served<
     }
 }
 
-/// Runs the session of a node that joins.
+/// Runs the session of a node that joins, and the one that follows if it falls back.
 fn joined<N: Net<Listener = TcpListener, Stream = TcpStream> + Wait, I: Read + Faults>(
     rt: &N,
     alloc: Global,
@@ -165,7 +189,11 @@ fn joined<N: Net<Listener = TcpListener, Stream = TcpStream> + Wait, I: Read + F
         ..
     } = link;
     let node = Node::joining(rt, alloc, name, peer, input)?;
-    met(rt, alloc, node, turns, connected(rt, port))
+    let meeting = met_first(rt, alloc, node, turns, connected(rt, port))?;
+    match meeting {
+        Meeting::Over(report) => Ok(report),
+        Meeting::FellBack(again) => met(rt, alloc, again, turns, connected(rt, port)),
+    }
 }
 
 /// Prints the report of a session, or the line of the ending if there is no report.
@@ -223,7 +251,9 @@ pub fn serve<
 /// that listens there, from which it requests all rows. Then audits the tables, and writes on `output` how many turns the session
 /// made, and the rows that the tables now have.
 ///
-/// The session ends as in `serve`, and also after the turn that sent `resync confirmed`, even if the resync was partial.
+/// The session ends as in `serve`, and also after the turn that sent `resync confirmed`, even if the resync was partial. If the other
+/// node answers its hello with status 502, and turns are left, `join` closes the connection, connects again, and runs a session that
+/// says version 2.0, with the same number and seat and its turns counted on.
 pub fn join<
     N: Net<Listener = TcpListener, Stream = TcpStream> + Wait,
     I: Read + Faults,

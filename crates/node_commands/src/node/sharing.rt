@@ -61,6 +61,7 @@ fn serve_one<H: Wait>(rt: &H, shards: &Shards, task: Task) -> Served
     let pace = Pace {
         leaves: false,
         stands: true,
+        taken: 0,
     };
     let played = play(
         rt,

@@ -22,6 +22,8 @@ pub struct Pace {
     /// Whether every turn comes at the moment at which the rows were loaded. Otherwise the first one comes a millisecond after it,
     /// and each other one a millisecond after the one before.
     pub(crate) stands: bool,
+    /// The turns that an earlier session of the node took. The moments go on after them.
+    pub(crate) taken: u32,
 }
 
 /// The turns that a session may take.
@@ -89,13 +91,13 @@ fn ending_after(
 impl Pace {
     /// Returns the moment of the turn that follows `before` others.
     fn moment(self, before: u32) -> Moment
-        requires { before + 1 < 2 ^ 32 }
+        requires { self.taken + (before + 1) < 2 ^ 32 }
         ensures { result ≡ moment_of self before }
     {
         if self.stands {
             Moment::least()
         } else {
-            Moment::least().later_by(before + 1)
+            Moment::least().later_by(self.taken + (before + 1))
         }
     }
 }
@@ -128,6 +130,7 @@ pub(crate) fn play<H: Wait, R: Read + Faults, W: Write + Faults>(
     from: &mut R,
     to: &mut W,
 ) -> Played
+    requires { turns.pace.taken + turns.most < 2 ^ 32 }
     ensures plays { (received sent : List ℕ) × Plays turns.pace 0 worker.old turns.most result.turns result.ending received sent worker.new
         × Consumes (R.remaining from.old) (R.remaining from.new) received
         × Appends (W.contents to.old) (W.contents to.new) sent }

@@ -1,6 +1,6 @@
 use Rattle.std.proofs.Common.{inl, inr, subst}
 use Rattle.text_commands.specs.declared.endings.Ending.{Ending}
-use Rattle.node_commands.specs.Nodes.{IsJoined}
+use Rattle.node_commands.specs.FallingBack.{IsJoined}
 use Rattle.node_commands.proofs.EndingLaws.{of_ok}
 use Rattle.node_commands.proofs.sockets.join.Goals as goal
 
