@@ -244,7 +244,8 @@ refuses_each() {
     done
 }
 
-# refused_node serve|join FILE: the same of a node with a far side, which is in refusing.py.
+# refused_node serve|join|rejoin FILE: the same of a node with a far side, which is in refusing.py; that of `rejoin` refuses the version of the
+# first hello.
 refused_node() {
     local option
     for option in '' --all; do
@@ -301,4 +302,5 @@ refused_growth() {
     refuses_each /dev/null round --threads 2 --tracks 3
     refused_node serve examples/two-updates.scene
     refused_node join examples/two-updates.scene
+    refused_node rejoin examples/two-updates.scene
 }

@@ -114,10 +114,11 @@ strangers() {
     local hello='HAProxyS 2.1\nb\na 1 1\n'
     printf 'row 1 4294997296 7 5\nrow 1 4294997296 8 240\n' >"$scratch/wanted"
     cp examples/two-updates.scene "$scratch/served"
-    serve_to 'HAProxyS 2.0\nb\na 1 1\n' $'502\n' 0 'another version' ''
+    serve_to 'HAProxyS 2.2\nb\na 1 1\n' $'502\n' 0 'another version' ''
     serve_to 'HAProxyS 2.1\nc\na 1 1\n' $'503\n' 0 'another remote name' ''
     serve_to 'HAProxyS 2.1\nb\nc 1 1\n' $'504\n' 0 'a stranger' ''
     serve_to 'GET / HTTP/1.1\n\n\n' $'501\n' 0 'another protocol' ''
+    serve_to 'HAProxyS 2.0\nb\na 1 1\n\x0A\x83\x01\x09' $'200\n10' 1 'a switch to no table, in version 2.0' $'fault NoTable\n'
     serve_to "$hello"'\x0A\x83\x01\x09' $'200\n10' 1 'a switch to no table' $'fault NoTable\n'
     serve_to "$hello"'\x0A\x82\xF1\xF1\x06' $'200\n11' 1 'a message that is too large' $'fault SizeLimit\n'
     serve_to "$hello"'\x01\x00' $'200\n' 0 'an error message' ''
@@ -129,7 +130,8 @@ strangers() {
 # `connect PORT WORD..`: it plays the other side of one connection, and answers with all that came over it, in hexadecimal,
 # after the port at which it listens. It follows the words in turn: it sends hexadecimal; `<N` reads N bytes, and `~N` reads N that
 # aren't answered; `end` sends no more; `pause` waits a little; `leave` closes the connection, and `reset` resets it. At the end it reads
-# until nothing comes.
+# until nothing comes. After the word `again` it listens for another connection, or makes one to the port that follows, and follows the
+# words behind it there; what came over several is joined by `/`. It listens no more once it has the last one.
 far_side() {
     python3 -c 'if True:
         import socket, struct, sys, time
@@ -182,21 +184,30 @@ far_side() {
             except OSError as error:
                 return came.hex().upper() + " " + type(error).__name__
 
+        def over(peer, words):
+            peer.settimeout(10)
+            with peer:
+                return played(peer, words)
+
         def answer(kind, words):
             if kind == "port":
                 print(listener().getsockname()[1], flush=True)
                 return
-            if kind == "listen":
-                made = listener()
-                made.listen()
-                print(made.getsockname()[1], flush=True)
+            parts = [part.split() for part in " ".join(words).split("again")]
+            if kind == "connect":
+                came = [over(connected(int(port)), part) for port, *part in parts]
+                print("/".join(came), flush=True)
+                return
+            made = listener()
+            made.listen()
+            print(made.getsockname()[1], flush=True)
+            came = []
+            for place, part in enumerate(parts):
                 peer, _ = made.accept()
-            else:
-                peer = connected(int(words.pop(0)))
-            peer.settimeout(10)
-            with peer:
-                came = played(peer, words)
-            print(came, flush=True)
+                if place + 1 == len(parts):
+                    made.close()
+                came.append(over(peer, part))
+            print("/".join(came), flush=True)
 
         for line in sys.stdin:
             kind, *words = line.split()
@@ -260,17 +271,56 @@ hex() {
 far_answers() {
     local code text
     cp examples/two-updates.scene "$scratch/served"
-    for code in 300 501 502 503 504; do far join "status $code" "$(hex "$code\n")" "$HELLO" 0 '' turns; done
-    for text in 'OK\n' '20\n' '2000\n' '0200\n' '200 \n' ' 200\n' '-200\n' '\n' 'HAProxyS 2.1\na\nb 1 1\n' 'HTTP/1.1 200 OK\r\n\r\n'; do
+    for code in 300 501 503 504; do far join "status $code" "$(hex "$code\n")" "$HELLO" 0 '' turns; done
+    for text in 'OK\n' '20\n' '2000\n' '0200\n' '200 \n' '502 \n' '0502\n' ' 200\n' '-200\n' '\n' 'HAProxyS 2.1\na\nb 1 1\n' 'HTTP/1.1 200 OK\r\n\r\n'; do
         far join "no status: $text" "$(hex "$text")" "$HELLO" 0 '' turns
     done
     far join 'a status line that is too long' "$(repeat 1026 3)" "$HELLO" 0 '' turns
     far join 'a message before the status' "0004$ACCEPTED" "$HELLO" 0 '' turns
-    for text in '' 2 20 200 '200\r'; do far join "ends after '$text'" "$(hex "$text") end" "$HELLO" 0 '' turns; done
+    for text in '' 2 20 200 '200\r' 502 '502\r'; do far join "ends after '$text'" "$(hex "$text") end" "$HELLO" 0 '' turns; done
     far join 'leaves before its status' '<21 leave' "$HELLO" 0 '' turns
     far join 'resets before its status' '<21 reset' "$HELLO" 4 $'device\n' ''
     far join 'a status in pieces' '32 pause 30 pause 300D pause 0A0A8301 pause 09' "$HELLO 0000 0100" 1 $'fault NoTable\n' turns
     far join 'resets after its status' "$ACCEPTED <23 reset" "$HELLO 0000" 4 $'device\n' ''
+}
+
+# counted serve|join WHAT WORDS TURNS CAME STATUS OUTPUT ERRORS: has a node make at most TURNS turns against the far side, which follows the
+# words; all but the far side's words is compared as it is, the number of turns too.
+counted() {
+    local came errors
+    far_from "$1" "$3" "$4"
+    slurp "$scratch/$1.errors"; errors=$text
+    slurp "$scratch/$1.output"
+    if [ "$came" = "${5// /}" ] && [ "$status" -eq "$6" ] && [ "$text" = "$7" ] && [ "$errors" = "$8" ]; then pass; else
+        fail "$1: $2: status $status, came $came, $errors"
+        cat "$scratch/$1.output"
+    fi
+}
+
+# A far side that answers the hello of `join` with 502. If turns are left, `join` connects once more, says version 2.0, and its turns go
+# on: the rows of the lesson end 30 s after the moment of the turn that learned them. A lesson has lives or none.
+far_falls_back() {
+    local ack=0A84050100000002 bad both=$'turns\nrow 1 END 7 5\nrow 1 END 8 240'
+    bad=$(hex '502\n')
+    counted join '2.1 is refused, and 2.0 is welcome' "$bad again $ACCEPTED${OLDER_LESSON}0001" 100 "$HELLO/$OLDER 0000 0003 $ack" 0 \
+        $'turns 4\nrow 1 4294997300 7 5\nrow 1 4294997300 8 240\n' ''
+    far join '2.0 is welcome, and taught with lives' "$bad again $ACCEPTED${LESSON}0002" "$HELLO/$OLDER 0000 0003 $ack" 0 '' "$both"
+    counted join '2.0 is welcome, and taught with a life and none' "$bad again $ACCEPTED${MIXED}0001" 100 "$HELLO/$OLDER 0000 0003 $ack" 0 \
+        $'turns 4\nrow 1 4294968300 7 5\nrow 1 4294997300 8 240\n' ''
+    far join 'a request in version 2.0' "$bad again ${ACCEPTED}0000 <25 ${OLDER_LESSON}0001" "$HELLO/$OLDER 0000 0002 0003 $ack" 0 '' "$both"
+    far join 'a request in a lesson in version 2.0' "$bad again $ACCEPTED${OLDER_LESSON:0:50}0000${OLDER_LESSON:50} end" \
+        "$HELLO/$OLDER 0000 $ack $OLDER_LESSON" 0 '' "$both"
+    far join '2.1 is refused in pieces' "35 pause 30 pause 320D pause 0AFF again $ACCEPTED${OLDER_LESSON}0001" "$HELLO/$OLDER 0000 0003 $ack" 0 '' "$both"
+    far join 'a fault in version 2.0' "$bad again ${ACCEPTED}0A830109" "$HELLO/$OLDER 0000 0100" 1 $'fault NoTable\n' turns
+    far join 'resets in version 2.0' "$bad again $ACCEPTED <23 reset" "$HELLO/$OLDER 0000" 4 $'device\n' ''
+    counted join 'both versions are refused' "$bad again $bad" 100 "$HELLO/$OLDER" 0 $'turns 4\n' ''
+    counted join 'the name is refused in version 2.0' "$bad again $(hex '503\n')" 100 "$HELLO/$OLDER" 0 $'turns 4\n' ''
+    counted join 'leaves in version 2.0' "$bad again <21 leave" 100 "$HELLO/$OLDER" 0 $'turns 4\n' ''
+    counted join 'no turn is left' "$bad" 2 "$HELLO" 0 $'turns 2\n' ''
+    counted join 'one turn is left' "$bad again" 3 "$HELLO/$OLDER" 0 $'turns 3\n' ''
+    counted join 'two turns are left' "$bad again $ACCEPTED$OLDER_LESSON" 4 "$HELLO/$OLDER 0000 $ack" 0 \
+        $'turns 4\nrow 1 4294997300 7 5\nrow 1 4294997300 8 240\n' ''
+    counted join 'nobody listens any more' "$bad" 100 "$HELLO" 4 '' $'device\n'
 }
 
 # What it gets once it was accepted, with a lesson of two updates, whose second one it acknowledges.
@@ -306,15 +356,21 @@ far_hellos() {
         'HAProxyS 2.1\nb\na 1 1 1\n' '\n\n\n' "HAProxyS 2.1\nb\n$(repeat 256 a) 1 1\n" "$(repeat 513 H)" '\0\0\n\n\n'; do
         far serve "no hello: ${text:0:40}" "$(hex "$text")" "$(hex '501\n')" 0 '' "$rows"
     done
-    for text in 'HAProxyS 2.0\nb\na 1 1\n' 'HAProxyS 3.1\nb\na 1 1\n' 'HAProxyS  2.1\nb\na 1 1\n' 'HAProxyS 2.10\nc\nc 1 1\n'; do
+    for text in 'HAProxyS 2.2\nb\na 1 1\n' 'HAProxyS 3.1\nb\na 1 1\n' 'HAProxyS  2.1\nb\na 1 1\n' 'HAProxyS 2.10\nc\nc 1 1\n' 'HAProxyS 2\nb\na 1 1\n' \
+        'HAProxyS 2.00\nb\na 1 1\n' 'HAProxyS 2.01\nb\na 1 1\n' 'HAProxyS 02.0\nb\na 1 1\n' 'HAProxyS 2.0 \nb\na 1 1\n'; do
         far serve "another version: $text" "$(hex "$text")" "$(hex '502\n')" 0 '' "$rows"
     done
-    for text in 'HAProxyS 2.1\n\na 1 1\n' 'HAProxyS 2.1\nbb\na 1 1\n' "HAProxyS 2.1\n$(repeat 512 b)\nc 1 1\n"; do
+    for text in 'HAProxyS 2.1\n\na 1 1\n' 'HAProxyS 2.1\nbb\na 1 1\n' "HAProxyS 2.1\n$(repeat 512 b)\nc 1 1\n" 'HAProxyS 2.0\nc\nc 1 1\n'; do
         far serve "another name: ${text:0:40}" "$(hex "$text")" "$(hex '503\n')" 0 '' "$rows"
     done
     far serve 'no peer' "$(hex 'HAProxyS 2.1\nb\nb 1 1\n')" "$(hex '504\n')" 0 '' "$rows"
+    far serve 'no peer in version 2.0' "$(hex 'HAProxyS 2.0\nb\nb 1 1\n')" "$(hex '504\n')" 0 '' "$rows"
+    far serve 'no name in version 2.0' "$(hex 'HAProxyS 2.0\nb\na 1\n')" "$(hex '501\n')" 0 '' "$rows"
+    far serve 'a hello of version 2.0 with CR' "$(hex 'HAProxyS 2.0\r\nb\r\na 1 1\r\n')0100" "$ACCEPTED" 0 '' "$rows"
     far serve 'a hello with CR' "$(hex 'HAProxyS 2.1\r\nb\r\na 1 1\r\n')0100" "$ACCEPTED" 0 '' "$rows"
     far serve 'a hello in pieces' "${HELLO:0:8} pause ${HELLO:8:20} pause ${HELLO:28}0100" "$ACCEPTED" 0 '' "$rows"
+    far serve 'a hello of version 2.0' "${OLDER}0100" "$ACCEPTED" 0 '' "$rows"
+    far serve 'a hello of version 2.0 in pieces' "${OLDER:0:22} pause ${OLDER:22:2} pause ${OLDER:24}0100" "$ACCEPTED" 0 '' "$rows"
 }
 
 # What it gets once it accepted the far side and taught it its rows. It teaches them from the second turn on, and each turn is a
@@ -323,6 +379,9 @@ far_requests() {
     local rows=$'turns\nrow 1 END 7 5\nrow 1 END 8 240' ack=0A84050100000002
     local taught=${ACCEPTED}${LESSON//7530/752E} again=0A850D000000010000752B00000007050A860A0000752B00000008F000
     far serve 'a resync' "${HELLO}0000 <46 $ack <2 0003 end" "$taught 0001" 0 '' "$rows"
+    far serve 'a resync in version 2.0' "${OLDER}0000 <38 $ack <2 0003 end" "$ACCEPTED$OLDER_LESSON 0001" 0 '' "$rows"
+    far serve 'a request in a resync in version 2.0' "${OLDER}0000 <38 0000 pause $ack <21 $ack <2 0003 end" \
+        "$ACCEPTED$OLDER_LESSON 0A8009000000010000000705${OLDER_LESSON: -18} 0001" 0 '' "$rows"
     far serve 'a resync that is read late' "${HELLO}0000 pause pause <46 $ack <2 0003 end" "$taught 0001" 0 '' "$rows"
     far serve 'leaves in a resync' "${HELLO}0000 <46 leave" "$taught" 0 '' "$rows"
     far serve 'resets in a resync' "${HELLO}0000 <46 reset" "$taught" 4 $'device\n' ''
@@ -335,6 +394,34 @@ far_requests() {
     far serve 'a fault in a resync' "${HELLO}0000 <46 0A830109" "$taught 0100" 1 $'fault NoTable\n' "$rows"
     far serve 'an error message in a resync' "${HELLO}0000 <46 0101" "$taught" 0 '' "$rows"
     far serve 'bytes of 255' "$HELLO$(repeat 200 F)" "$ACCEPTED 0100" 1 $'fault BadInteger\n' "$rows"
+}
+
+# What `serve` learns, in a session of either version: a life that comes counts, and without one a row ends after the table's expire. It
+# reads the hello and the updates in its first turn, 1 ms after the moment 2^32, and the end in its second.
+far_updates() {
+    local hello
+    for hello in "$HELLO" "$OLDER"; do
+        counted serve 'updates with a life and with none' "$hello$MIXED end" 100 "$ACCEPTED 0A84050100000002" 0 \
+            $'turns 2\nrow 1 4294968297 7 5\nrow 1 4294997297 8 240\n' ''
+    done
+}
+
+# Two sessions of one node, each of the version of its hello. All their turns come at the moment at which the rows were loaded.
+far_versions() {
+    local port came status errors ack=0A84050100000002
+    tell port
+    read -r -t 20 port <&"${FAR[0]}"
+    serve_several "$port" 2
+    tell connect "$port" "${OLDER}0000 <38 $ack <2 0003 end again $port ${HELLO}0000 <46 $ack <2 0003 end"
+    read -r -t 20 came <&"${FAR[0]}"
+    wait "$server"; status=$?
+    slurp "$scratch/serve.errors"; errors=$text
+    slurp <(sed 1d "$scratch/serve.output")
+    if [ "$came" = "$ACCEPTED${OLDER_LESSON}0001/$ACCEPTED${LESSON}0001" ] && [ "$status" -eq 0 ] && [ -z "$errors" ] &&
+        [ "$text" = $'audit ok\nrow 1 4294997296 7 5\nrow 1 4294997296 8 240\n' ]; then pass; else
+        fail "serve: a session of each version: status $status, came $came, $errors"
+        cat "$scratch/serve.output"
+    fi
 }
 
 # One turn of a node that serves: it reads the hello and the request, and teaches no row.
@@ -377,16 +464,23 @@ far_faults() {
     done <examples/faults.tsv
 }
 
-# The far side's hello and that of `join` have the same bytes here: each has a peer of the other's name.
+# The far side's hello and that of `join` have the same bytes here: each has a peer of the other's name. The updates of LESSON have a life of
+# 30,000 ms, those of OLDER_LESSON have none, and of MIXED the first one has 1,000 ms and the second none.
 far_sides() {
-    local HELLO ACCEPTED LESSON=0A820A01027431020404F0C40D0A850D000000010000753000000007050A860A0000753000000008F000
+    local HELLO OLDER ACCEPTED LESSON=0A820A01027431020404F0C40D0A850D000000010000753000000007050A860A0000753000000008F000
+    local OLDER_LESSON=0A820A01027431020404F0C40D0A80090000000100000007050A810600000008F000
+    local MIXED=0A820A01027431020404F0C40D0A850D00000001000003E800000007050A810600000008F000
     HELLO=$(hex 'HAProxyS 2.1\nb\na 1 1\n')
+    OLDER=$(hex 'HAProxyS 2.0\nb\na 1 1\n')
     ACCEPTED=$(hex '200\n')
     coproc FAR { far_side; }
     far_answers
+    far_falls_back
     far_lessons
     far_hellos
     far_requests
+    far_updates
+    far_versions
     far_turns
     far_that_stops_reading
     far_faults

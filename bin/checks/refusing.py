@@ -3,7 +3,8 @@
 
   refusing.py program PROGRAM WORD..  each run prints what the program prints with all its memory, or nothing and that memory ran out (3)
                                       or that there is no device (4); both of the first happen
-  refusing.py serve|join PROGRAM FILE the same of a node that meets a scripted far side
+  refusing.py serve|join|rejoin PROGRAM FILE
+                                      the same of a node that meets a scripted far side; `rejoin` is `join`, refused once for its version
   refusing.py tests PROGRAM TEST..    each run of each test of a crate of tests passes; prints for which calls memory ran out
   refusing.py --all ..                the allocations after the refused one are refused as well
 
@@ -154,8 +155,9 @@ class Traced:
 
 # --- A far side
 
+NODES = ("serve", "join", "rejoin")
 HELLO = b"HAProxyS 2.1\nb\na 1 1\n"
-ACCEPTED = b"200\n"
+ACCEPTED, REFUSED = b"200\n", b"502\n"
 LESSON = bytes.fromhex("0A820A01027431020404F0C40D0A850D000000010000753000000007050A860A0000753000000008F000")
 
 
@@ -181,9 +183,11 @@ def talk(peer, words):
         peer.close()
 
 
-def accepts(listener):
-    """Plays the far side of `join`: it teaches two rows."""
+def accepts(listener, kind):
+    """Plays the far side of `join`: it teaches two rows, for `rejoin` over a second connection, once it has refused the first one's hello."""
     try:
+        if kind == "rejoin":
+            talk(listener.accept()[0], [len(HELLO), REFUSED])
         peer, _ = listener.accept()
     except OSError:
         return
@@ -220,19 +224,20 @@ def meets(kind, program, given, first, others):
         listener.setsockopt(socket.SOL_SOCKET, socket.SO_REUSEADDR, 1)
         port = bind_apart(listener, first)
         is_over = threading.Event()
-        if kind == "join":
+        joins = kind != "serve"
+        if joins:
             listener.listen()
-            far = threading.Thread(target=accepts, args=(listener,))
+            far = threading.Thread(target=accepts, args=(listener, kind))
         else:
             listener.close()
             far = threading.Thread(target=connects, args=(port, is_over))
-        own, peer = ("a", "b") if kind == "join" else ("b", "a")
-        words = [kind, "--turns", "100", "--port", str(port), "--name", own, "--peer", peer]
+        own, peer = ("a", "b") if joins else ("b", "a")
+        words = ["join" if joins else "serve", "--turns", "100", "--port", str(port), "--name", own, "--peer", peer]
         traced = Traced(program, words, given)
         far.start()
         run = traced.run(first, others)
         is_over.set()
-        if kind == "join":
+        if joins:
             listener.shutdown(socket.SHUT_RDWR)
         far.join()
         return run
@@ -244,7 +249,7 @@ def meets(kind, program, given, first, others):
 def run_of(task):
     kind, program, words, given, first, others = task
     try:
-        if kind in ("serve", "join"):
+        if kind in NODES:
             return meets(kind, program, given, first, others)
         return Traced(program, words, given).run(first, others)
     except (OSError, SystemExit) as error:
@@ -304,13 +309,13 @@ def main(words):
     kind, program, *words = words[others:]
     program = os.path.abspath(program)
     given = b""
-    if kind in ("serve", "join"):
+    if kind in NODES:
         with open(words[0], "rb") as file:
             given = file.read()
     elif kind == "program" and select.select([0], [], [], 0)[0]:
         given = sys.stdin.buffer.read()
     complaints, said = [], []
-    for what in words if kind == "tests" else [kind if kind in ("serve", "join") else " ".join(words)]:
+    for what in words if kind == "tests" else [kind if kind in NODES else " ".join(words)]:
         whole, runs = runs_of(kind, program, [what] if kind == "tests" else words, given, others)
         tells = tells_test if kind == "tests" else tells_program
         wrongs, line = tells(what, whole, runs, ", with all after it" if others else "")

@@ -28,7 +28,7 @@ from fuzzing.streams import OVER, Talk, spoilt
 from fuzzing.tables import FIRST_MOMENT, GREATEST, RATES, Table, counted, definition_data, edge, shape
 from peering.lessons import Misread, read_definition
 
-HELLO = b'HAProxyS 2.1\nb\na 1 1\n'
+HELLOS = b'HAProxyS 2.1\nb\na 1 1\n', b'HAProxyS 2.0\nb\na 1 1\n'
 ITS_HELLO = re.compile(rb'HAProxyS 2\.1\nb\na [0-9]+ [0-9]+\n')
 ACCEPTED = b'200\n'
 IMPATIENT = 0.05
@@ -87,7 +87,7 @@ def definition(number):
 
 def random_hello(random, node):
     """Returns a hello, or for a node that joins a status, that a node doesn't accept, or the beginning of one."""
-    good = HELLO if node == 'serve' else ACCEPTED
+    good = random.choice(HELLOS) if node == 'serve' else ACCEPTED
     what = random.randrange(5)
     if what == 0:
         return good[:random.randrange(len(good))]
@@ -96,7 +96,7 @@ def random_hello(random, node):
     if what == 2:
         return b'H' * random.choice((512, 513, 5000))
     if what == 3:
-        return random.choice((b'HAProxyS 2.0\nb\na 1 1\n', b'HAProxyS 2.1\nc\na 1 1\n', b'HAProxyS 2.1\nb\nz 1 1\n', b'300\n', b'501\n', b'504\n', b'\n\n\n'))
+        return random.choice((b'HAProxyS 2.2\nb\na 1 1\n', b'HAProxyS 2.1\nc\na 1 1\n', b'HAProxyS 2.1\nb\nz 1 1\n', b'300\n', b'501\n', b'504\n', b'\n\n\n'))
     spoilt_hello = bytearray(good)
     spoilt_hello[random.randrange(len(good))] = random.getrandbits(8)
     return bytes(spoilt_hello)
@@ -107,7 +107,7 @@ def random_session(random, roster, updates):
     node = random.choice(('serve', 'join'))
     hostile = random.random() < 0.6
     talk = Talk(random, roster)
-    hello = HELLO if node == 'serve' else ACCEPTED
+    hello = random.choice(HELLOS) if node == 'serve' else ACCEPTED
     if hostile and random.random() < 0.15:
         hello = random_hello(random, node)
     acts = sound_acts(random, talk) if not hostile or random.random() < 0.5 else []
@@ -370,7 +370,7 @@ def held(program, session, text, learner):
             far.pump(hello)
         else:
             far.pump(hello)
-            if hello == HELLO:
+            if hello in HELLOS:
                 require(far.pump(until=lambda: b'\n' in far.came), 'slow', 'no status of serve')
                 require(bytes(far.came) == ACCEPTED, 'a status', '', bytes(far.came))
                 far.expect_messages()
@@ -450,7 +450,7 @@ def is_plain(session, far):
     """Whether the node read all that was sent, and each message as a learner does: nothing ended the session before."""
     if far.is_deaf or session['turns'] < 1000 or session['ending'] == 'reset' or not far.begun:
         return False
-    if session['hello'] != (HELLO if session['node'] == 'serve' else ACCEPTED):
+    if session['hello'] not in (HELLOS if session['node'] == 'serve' else (ACCEPTED,)):
         return False
     return not any(class_byte == 1 and type_byte < 2 or class_byte == 0 and type_byte in (1, 2) and session['node'] == 'join'
                    or class_byte == TABLE_CLASS and type_byte == 132 for _, class_byte, type_byte, _ in framed(bytes(far.sent)))

@@ -87,6 +87,26 @@ static SAME_NUMBER: FarSide = FarSide {
     ends: false,
 };
 
+/// A far side that says version 2.0, which a session that stays doesn't speak.
+static SAYS_VERSION_20: FarSide = FarSide {
+    tables: EMPTY,
+    steps: &[
+        Step {
+            after: 0,
+            tracks: None,
+            sends: b"HAProxyS 2.0\nb\n",
+            wanted: b"",
+        },
+        Step {
+            after: 10,
+            tracks: None,
+            sends: b"a 1 1\n",
+            wanted: b"502\n",
+        },
+    ],
+    ends: true,
+};
+
 /// A far side that never acknowledges, as one does that lacks the table, and then falls silent.
 static LACKS_THE_TABLE: FarSide = FarSide {
     tables: EMPTY,
@@ -232,7 +252,13 @@ static AHEAD: FarSide = FarSide {
 
 #[test]
 fn far_sides(rt: HostRuntime) {
-    for far_side in [&SAME_NUMBER, &LACKS_THE_TABLE, &ASKS_AGAIN, &AHEAD] {
+    for far_side in [
+        &SAME_NUMBER,
+        &SAYS_VERSION_20,
+        &LACKS_THE_TABLE,
+        &ASKS_AGAIN,
+        &AHEAD,
+    ] {
         assert_eq!(rt; first_other_step(&rt, rt.alloc(), far_side), None);
     }
 }

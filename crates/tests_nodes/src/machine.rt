@@ -3,6 +3,7 @@
 mod answers;
 mod endings;
 mod resyncs;
+mod versions;
 
 use learner::Fault;
 use peers_msg::{Breach, ErrorKind};
@@ -44,7 +45,7 @@ const ACCEPTOR_PARTIAL: &[Step] = &[
 
 /// A hello that is refused, which comes in two pieces.
 const REFUSED: &[Step] = &[
-    (Given::Bytes(b"HAProxyS 2.0\nb\n"), &[], State::Hello),
+    (Given::Bytes(b"HAProxyS 2.2\nb\n"), &[], State::Hello),
     (
         Given::Bytes(b"a 1 1\n"),
         &[Asked::Send(b"502\n"), Asked::Close],

@@ -2,10 +2,10 @@
 
 use peers_engine::{EngineError, Turned};
 use session_core::{SessionError, State};
-use table_types::{DataType, KeyKind, Value};
+use table_types::{DataType, KeyKind, Value, Version};
 use tests_play_data::parts::{KeyParts, T1, T2, TableParts, UpdateParts};
 use tests_play_nodes::tables::{Role, Tables};
-use tests_play_nodes::turns::{Exchange, Story, comes_true_ahead, first_failing};
+use tests_play_nodes::turns::{Exchange, Story, comes_true_ahead, first_failing, last_opened_with};
 
 /// The hello of `a` to `b`.
 const HELLO: &[u8] = b"HAProxyS 2.1\nb\na 1 1\n";
@@ -259,6 +259,81 @@ fn a_seat_that_is_ahead(rt: HostRuntime) {
     assert_eq!(rt;
         comes_true_ahead(&rt, rt.alloc(), &IS_AHEAD, &FILLED),
         Some(true)
+    );
+}
+
+/// `b` accepts a hello of version 2.0.
+static ACCEPTS_VERSION_20: Story = Story {
+    tables: FILLED,
+    role: Role::Accepts,
+    opening: &[Exchange {
+        comes: b"HAProxyS 2.0\nb\na 1 1\n",
+        sends: b"200\n",
+        ends: Ok(Turned::Going),
+    }],
+    turns: &[],
+    state: State::Ready,
+    rows: &[(7, 5), (8, 240)],
+};
+
+/// It accepts one of version 2.1, and the request that follows it.
+static ACCEPTS_VERSION_21: Story = Story {
+    tables: FILLED,
+    role: Role::Accepts,
+    opening: ASKING,
+    turns: &[],
+    state: State::Teaching,
+    rows: &[(7, 5), (8, 240)],
+};
+
+/// The version with which the session is reopened in the table. No byte shows that yet.
+#[test]
+fn versions_of_reopened_sessions(rt: HostRuntime) {
+    assert_eq!(rt;
+        last_opened_with(&rt, rt.alloc(), &ACCEPTS_VERSION_20),
+        Some(Version::V20)
+    );
+    assert_eq!(rt;
+        last_opened_with(&rt, rt.alloc(), &ACCEPTS_VERSION_21),
+        Some(Version::V21)
+    );
+}
+
+/// A session of version 2.0 teaches the two rows without a life, and ends the resync once they are acknowledged.
+static TEACHES_IN_VERSION_20: [Story; 1] = [Story {
+    tables: FILLED,
+    role: Role::Accepts,
+    opening: &[Exchange {
+        comes: b"HAProxyS 2.0\nb\na 1 1\n\x00\x00",
+        sends: b"200\n",
+        ends: Ok(Turned::Going),
+    }],
+    turns: &[
+        Exchange {
+            comes: b"",
+            sends: b"\x0A\x82\x0A\x01\x02t1\x02\x04\x04\xF0\xC4\x0D\x0A\x80\x09\x00\x00\x00\x01\x00\x00\x00\x07\x05\x0A\x81\x06\x00\x00\x00\x08\xF0\x00",
+            ends: Ok(Turned::Going),
+        },
+        Exchange {
+            comes: TAKEN,
+            sends: b"",
+            ends: Ok(Turned::Going),
+        },
+        Exchange {
+            comes: b"",
+            sends: b"\x00\x01",
+            ends: Ok(Turned::Going),
+        },
+    ],
+    state: State::Ready,
+    rows: &[(7, 5), (8, 240)],
+}];
+
+#[test]
+fn lessons_of_version_20(rt: HostRuntime) {
+    assert_eq!(rt;
+        first_failing(&rt, rt.alloc(), &TEACHES_IN_VERSION_20),
+        None
     );
 }
 

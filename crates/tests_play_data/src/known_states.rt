@@ -154,7 +154,15 @@ pub fn known_of_t1(alloc: Global, last: Option<u32>) -> Option<Known> {
     };
     defined.push(T1.id).ok()?;
     numbers.push((T1.id, last)).ok()?;
-    Known::build(alloc, roster, Some(T1.id), defined, numbers, Slots::new(alloc)).ok()
+    Known::build(
+        alloc,
+        roster,
+        Some(T1.id),
+        defined,
+        numbers,
+        Slots::new(alloc),
+    )
+    .ok()
 }
 
 /// Returns the index of the first story of which a step fails.

@@ -7,7 +7,7 @@ use learner::Fault;
 use peers_msg::ErrorKind;
 pub use player::first_failing;
 use session_core::State;
-use table_types::{CopyKind, Settled};
+use table_types::{CopyKind, Settled, Version};
 
 /// An event.
 pub enum Given {
@@ -48,6 +48,10 @@ pub enum After {
     /// It has confirmed the end of the other's resync.
     Confirmed,
     Fault(Fault),
+    /// It speaks this version, if any, and didn't fall back.
+    Speaks(Option<Version>),
+    /// It speaks no version, since it fell back.
+    FellBack,
     /// It is over, and refuses a turn as that.
     Over,
     /// It refuses the event as unasked, and is over.
@@ -60,8 +64,12 @@ pub enum Peer {
     Connector,
     /// That of an `a` that shares `t1` and `st`, and is up to date.
     ConnectorOfTwoTables,
+    /// The same, of an `a` that says version 2.0.
+    ConnectorOfVersion20,
     /// That of `b`, to which `a` connects, and which shares `t1` with it.
     Acceptor { up_to_date: bool },
+    /// That of a `b` that shares `t1` and `st`, and is up to date.
+    AcceptorOfTwoTables,
 }
 
 /// A session, its steps in runs, and what it says of itself after them: it is played anew for each of these.

@@ -27,10 +27,20 @@ pub(crate) fn hello(alloc: Global, version: Version) -> Option<Hello> {
     })
 }
 
-/// Makes the session of `a`, which connects to `b`.
-pub fn connecting(alloc: Global, roster: Roster, up_to_date: bool) -> Option<Session> {
-    let (hello, roster) = hello(alloc, Version::V21).zip(Some(roster))?;
+/// Makes the session of `a`, which connects to `b` and says this version.
+pub(crate) fn connecting_with(
+    alloc: Global,
+    version: Version,
+    roster: Roster,
+    up_to_date: bool,
+) -> Option<Session> {
+    let (hello, roster) = hello(alloc, version).zip(Some(roster))?;
     Session::connect(alloc, hello, roster, up_to_date).ok()
+}
+
+/// Makes the session of `a`, which connects to `b` and says version 2.1.
+pub fn connecting(alloc: Global, roster: Roster, up_to_date: bool) -> Option<Session> {
+    connecting_with(alloc, Version::V21, roster, up_to_date)
 }
 
 /// Makes the list of the peers that `b` knows: `a` alone.

@@ -11,8 +11,9 @@ use std::alloc::Global;
 use std::io::Read;
 use std::mem;
 use std::sync::Wait;
+use table_cell::CellEvent;
 use table_shards::Shards;
-use table_types::{Cell, Key, Row};
+use table_types::{Cell, Key, Row, Version};
 
 /// A turn: the bytes that have come before it, those that the side sends in it, and how it ends.
 #[derive(Drop)]
@@ -117,6 +118,27 @@ pub fn first_failing<H: Wait>(rt: &H, alloc: Global, stories: &[Story]) -> Optio
         }
     }
     None
+}
+
+/// Returns the version with which the last event of `t1` opened the session, or `None` if that event opened none.
+fn last_opened<H: Wait>(rt: &H, shards: &Shards) -> Option<Version> {
+    let locked = shards.cell(1)?.lock(rt);
+    let cell = locked.cell();
+    match cell.event_at(cell.events()) {
+        Some((CellEvent::Open { version, .. }, _)) => Some(*version),
+        _ => None,
+    }
+}
+
+/// Plays a story with a new side, and returns the version with which the last event of `t1` opened the session. Returns `None` if the
+/// story fails, or if that event opened no session.
+pub fn last_opened_with<H: Wait>(rt: &H, alloc: Global, story: &Story) -> Option<Version> {
+    let mut side = story.tables.side(alloc, story.role)?;
+    if is_lived(rt, alloc, &mut side, story)? {
+        last_opened(rt, &side.shards)
+    } else {
+        None
+    }
 }
 
 /// Gives the side the seat from which `t1` of another side was changed, and returns whether the story goes as it says.

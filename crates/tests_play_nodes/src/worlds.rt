@@ -243,9 +243,7 @@ fn add_one(cell: &mut TableCell) -> Option<()>
     ensures { IfSome result (λ done. length cell.new.state.sessions ≡ length cell.old.state.sessions) }
 {
     let change = Change::Add(DataType::Gpc0, 1);
-    let _reply = cell
-        .track(0, Key::Int(1), change, Moment::least())
-        .ok()?;
+    let _reply = cell.track(0, Key::Int(1), change, Moment::least()).ok()?;
     Some(())
 }
 

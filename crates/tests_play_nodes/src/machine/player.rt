@@ -1,12 +1,12 @@
 //! Plays stories of sessions.
 
 use crate::machine::{After, Asked, Given, Peer, Step, Story};
-use crate::sessions::{accepting, connecting, roster};
+use crate::sessions::{accepting, connecting, connecting_with, roster};
 use known_state::Known;
 use learner::Fault;
 use session_core::{Action, Event, Session, SessionError, State};
 use std::alloc::Global;
-use table_types::{Batch, Items, Moment, Roster, Update, Value};
+use table_types::{Batch, Items, Moment, Roster, Update, Value, Version};
 use tests_play_data::parts::{
     KeyParts, KnownParts, ST, T1, UpdateParts, alone, are_held, known, updates,
 };
@@ -35,7 +35,11 @@ fn session(alloc: Global, peer: &Peer) -> Option<Session> {
     match peer {
         Peer::Connector => connecting(alloc, alone(alloc, &T1)?, false),
         Peer::ConnectorOfTwoTables => connecting(alloc, roster(alloc, &[T1, ST])?, true),
+        Peer::ConnectorOfVersion20 => {
+            connecting_with(alloc, Version::V20, roster(alloc, &[T1, ST])?, true)
+        }
         Peer::Acceptor { up_to_date } => accepting(alloc, alone(alloc, &T1)?, *up_to_date),
+        Peer::AcceptorOfTwoTables => accepting(alloc, roster(alloc, &[T1, ST])?, true),
     }
 }
 
@@ -162,11 +166,18 @@ fn says(session: &Session, confirmed: bool, fault: Option<Fault>) -> bool {
     session.confirmed() == confirmed && session.fault() == fault
 }
 
+/// Returns whether the session says so of its version.
+fn speaks(session: &Session, version: Option<Version>, fell_back: bool) -> bool {
+    session.version() == version && session.fell_back() == fell_back
+}
+
 fn is_left(alloc: Global, session: &mut Session, after: &After) -> bool {
     match after {
         After::Plain => says(session, false, None),
         After::Confirmed => says(session, true, None),
         After::Fault(fault) => says(session, false, Some(*fault)),
+        After::Speaks(version) => says(session, false, None) && speaks(session, *version, false),
+        After::FellBack => says(session, false, None) && speaks(session, None, true),
         After::Over => {
             says(session, false, None) && refuses(alloc, session, &Given::Turn, SessionError::Ended)
         }
