@@ -55,7 +55,8 @@ fn steep_heights(alloc: Global, nodes: usize) -> Result<Vec<u64>, Memory>
 }
 
 /// Adds at most `count` slots, one by one, each along an augmenting path of least cost from the first node to the last.
-/// Ends early when all heights are equal: then another slot saves nothing, and the rest may stay free.
+/// Ends early when the heights of the two ends, and so all between them, are equal: then another slot saves nothing, and
+/// the rest may stay free.
 fn add_slots(
     alloc: Global,
     count: usize,

@@ -156,8 +156,7 @@ fn nearest(steps: &[Option<Step>], heap: &mut BinaryHeap<Reverse<(u64, usize)>>)
     None
 }
 
-/// Returns the distances from the source: of each node nearer than the target the least, and of the others none less than
-/// the target's.
+/// Returns what the heap found as distances from the source, one for each node. Only their number is proved.
 fn find_distances(
     alloc: Global,
     ends: Ends,

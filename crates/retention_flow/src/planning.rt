@@ -34,14 +34,14 @@ impl From<Memory> for PlanError {
     }
 }
 
-/// The arcs of all links, kept, and the slots that it takes to keep them.
+/// The arcs of all links, kept, and the most of them over any place.
 #[derive(Drop)]
 struct AllKept {
     arcs: Vec<RequestArc>,
     /// The free slots at each place, from place 1 on.
     room: Vec<usize>,
-    /// How many slots it takes: at least one less than there are.
-    taken: usize,
+    /// The most kept links over any place, or `slots - 1` if that is more. One slot more holds the names that aren't kept.
+    most_over: usize,
 }
 
 /// Keeps all links of `requests`, if the names in `held` are held at the start, in as many slots as that takes.
@@ -56,11 +56,15 @@ fn keep_all(
     ensures arcs { IfOk result (λ all. all.arcs.items ≡ arcs_from (at_start held.now) requests.now) }
     ensures back { IfOk result (λ all. GoBack all.arcs.items) }
     ensures little { IfOk result (λ all. SaveLittle all.arcs.items) }
-    ensures room { IfOk result (λ all. IsRoom all.taken all.room.items all.arcs.items × (slots - 1 ≤ all.taken) × (all.taken ≤ 4096)) }
+    ensures room { IfOk result (λ all. IsRoom all.most_over all.room.items all.arcs.items × (slots - 1 ≤ all.most_over) × (all.most_over ≤ 4096)) }
 {
     let arcs = find_arcs(alloc, held, requests)?;
-    let (room, taken) = find_room(alloc, slots, &arcs)?;
-    Ok(AllKept { arcs, room, taken })
+    let (room, most_over) = find_room(alloc, slots, &arcs)?;
+    Ok(AllKept {
+        arcs,
+        room,
+        most_over,
+    })
 }
 
 /// Returns an accepted plan for `requests`, with `slots` slots, if the names in `held` are held at the start: no other
@@ -83,10 +87,10 @@ pub fn plan(
     let AllKept {
         mut arcs,
         mut room,
-        taken,
+        most_over,
     } = keep_all(alloc, slots, held, requests)?;
-    if taken + 1 - slots < slots {
-        return Ok(plan_by_taking(alloc, slots, taken, &mut room, &mut arcs)?);
+    if most_over + 1 - slots < slots {
+        return Ok(plan_by_taking(alloc, slots, most_over, &mut room, &mut arcs)?);
     }
     Ok(plan_by_adding(alloc, slots, &mut arcs)?)
 }
@@ -109,7 +113,7 @@ pub fn plan_by_cycles(
     let AllKept {
         mut arcs,
         mut room,
-        taken,
+        most_over,
     } = keep_all(alloc, slots, held, requests)?;
-    Ok(plan_by_taking(alloc, slots, taken, &mut room, &mut arcs)?)
+    Ok(plan_by_taking(alloc, slots, most_over, &mut room, &mut arcs)?)
 }

@@ -79,8 +79,8 @@ fn take_from(most: usize, counts: &mut [usize])
     }
 }
 
-/// Returns the free slots at each place, from place 1 on, and how many slots it takes to keep the kept arcs: at least
-/// `slots - 1`.
+/// Returns the free slots at each place, from place 1 on, out of as many as the number beside them: the most kept arcs
+/// over any place, or `slots - 1` if that is more.
 pub fn find_room(
     alloc: Global,
     slots: usize,
@@ -92,7 +92,7 @@ pub fn find_room(
     ensures { IfOk result (λ found. IsRoom found.1 found.0.items arcs.now × (slots - 1 ≤ found.1) × (found.1 ≤ 4096)) }
 {
     let mut room = kept_over(alloc, arcs)?;
-    let most = greatest(slots - 1, &room);
-    take_from(most, &mut room);
-    Ok((room, most))
+    let most_over = greatest(slots - 1, &room);
+    take_from(most_over, &mut room);
+    Ok((room, most_over))
 }

@@ -52,23 +52,24 @@ fn take_away(
     Ok(())
 }
 
-/// Returns the plan for `slots` slots, if it takes `taken` slots to keep the kept arcs, and heights of 0 are calm.
+/// Returns the plan for `slots` slots, if at most `most_over` kept arcs are over any place, and heights of 0 are calm.
+/// These arcs take `most_over` slots, and the names that aren't kept one more; takes away those that are too many.
 pub fn plan_by_taking(
     alloc: Global,
     slots: usize,
-    taken: usize,
+    most_over: usize,
     room: &mut [usize],
     arcs: &mut [RequestArc],
 ) -> Result<Plan, Memory>
-    requires slots { (1 ≤ slots) × (slots - 1 ≤ taken) × (taken ≤ 4096) }
+    requires slots { (1 ≤ slots) × (slots - 1 ≤ most_over) × (most_over ≤ 4096) }
     requires most { length arcs.old ≤ 4096 }
     requires back { GoBack arcs.old }
     requires little { SaveLittle arcs.old }
     requires calm { IsCalm (replicate (length arcs.old + 1) 0) room.old arcs.old }
-    requires room { IsRoom taken room.old arcs.old }
+    requires room { IsRoom most_over room.old arcs.old }
     ensures { IfOk result (λ plan. (held : List (List ℕ)) → (rs : List Asked) → AreArcs (at_start held) rs arcs.old → Accepts slots held rs plan) }
 {
     let mut heights = vec![in alloc; 0; arcs.len() + 1]?;
-    take_away(alloc, taken + 1 - slots, &mut heights, room, arcs)?;
+    take_away(alloc, most_over + 1 - slots, &mut heights, room, arcs)?;
     plan_of(alloc, &heights, arcs)
 }
