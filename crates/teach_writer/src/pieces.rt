@@ -105,6 +105,7 @@ impl Pieces {
         ensures said { IfOk result (λ pieces. Says known.now batch.now (bytes_left pieces) pieces.prices (verdicts.Shortest (length (bytes_left pieces)))) }
         ensures begun { IfOk result (λ pieces. pieces.ended ≡ false) }
     {
+        // These calls serve their clauses alone: they say that the roster is sound and that there are 128 slots.
         let (_tables, _count) = (known.roster().tables(), known.slots().len());
         let requests = known.costs(alloc, batch)?;
         let held = names_to_plan(alloc, known.slots(), requests.as_slice())?;
@@ -121,7 +122,7 @@ impl Pieces {
     }
 
     /// Appends the bytes of the next message to `bytes`, and returns whether one was left. After `Memory` the same message is
-    /// still the next one, and `bytes` may end with more than it had.
+    /// still the next one; then `bytes` may be anything.
     pub fn append_next(&mut self, bytes: &mut Vec<u8>) -> Result<bool, Memory>
         ensures more { IfOk result (λ more. more ≡ true → (m : Message) × (bytes.new.items ≡ bytes.old.items ++ spelled m)
             × IsNext self.old (Some (spelled m)) self.new) }

@@ -99,6 +99,7 @@ fn table_of(known: &Known, update: &Update, before: Option<NamedTable>) -> Named
     ensures table { StoresNames known.now.roster update.now.table result.stores_name }
     ensures word { update.now.number < 2 ^ 32 }
 {
+    // This call serves its clauses alone: they say that the number is below 2^32.
     let _number = number_sent(None, update.number);
     match before {
         Some(table) if table.id == update.table => table,
@@ -115,6 +116,7 @@ fn looked_up(known: &Known, id: u64) -> NamedTable
     let Some(table) = known.roster().table(id) else {
         unreachable!();
     };
+    // This call serves its clauses alone: they say that the table is well defined.
     let _id = table.id();
     NamedTable {
         id,
@@ -197,6 +199,7 @@ pub fn plan_names(
         GoesThrough known.now batch.now keep.now (stream_of (messages_left known.now.roster known.now.state batch.now names.items))
         (state_left known.now.roster known.now.state batch.now names.items)) }
 {
+    // This call serves its clauses alone: they say that the roster is sound.
     let _tables = known.roster().tables();
     let (next, later, first) = next_kept(alloc, requests, keep)?;
     let mut slots = known.slots().copy(alloc)?;

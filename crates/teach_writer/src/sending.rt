@@ -151,6 +151,7 @@ fn send_part(
     ensures roster { known.new.roster ≡ known.old.roster }
     ensures stays { OnErr result (known.new ≡ known.old) }
 {
+    // This call serves its clauses alone: they say that the tables that the known state has received are the roster's.
     let _roster = known.roster();
     if is_selected(selected, update.table) {
         let field = name_field(update, name);

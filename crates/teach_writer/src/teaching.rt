@@ -19,7 +19,7 @@ use known_state::Known;
 use std::alloc::Global;
 use table_types::{Batch, Items, Memory};
 
-/// Returns what is left of a lesson as a whole.
+/// Joins the messages that are left of a lesson, and says where each ends.
 pub fn joined(alloc: Global, mut pieces: Pieces) -> Result<Lesson, Memory>
     ensures parts { IfOk result (λ lesson. (lesson.bytes ≡ bytes_left pieces) × (plan_of lesson ≡ plan_left pieces) × (lesson.known ≡ pieces.known)) }
     ensures ends { IfOk result (λ lesson. (ms : List Message) → bytes_left pieces ≡ stream_of ms → lesson.ends ≡ ends_from 0 ms) }
