@@ -51,8 +51,8 @@ impl Receipt {
     }
 }
 
-/// Returns whether both are the same reply, field by field.
-fn are_same_rows(one: &Reply, other: &Reply) -> bool
+/// Returns whether both replies have the same number and row.
+fn are_same_row_replies(one: &Reply, other: &Reply) -> bool
     ensures { IsTrue result ↔ (one.now ≡ other.now) }
 {
     one.number == other.number && one.row.is_same(&other.row)
@@ -140,8 +140,8 @@ pub fn are_same_replies(one: &CellReply, other: &CellReply) -> bool
     ensures { IsTrue result ↔ (one.now ≡ other.now) }
 {
     match (one, other) {
-        (CellReply::Track(one), CellReply::Track(other)) => are_same_rows(one, other),
-        (CellReply::Learn(one), CellReply::Learn(other)) => are_same_rows(one, other),
+        (CellReply::Track(one), CellReply::Track(other)) => are_same_row_replies(one, other),
+        (CellReply::Learn(one), CellReply::Learn(other)) => are_same_row_replies(one, other),
         (CellReply::Copy(one), CellReply::Copy(other)) => one.is_same(other),
         (CellReply::Ack(one), CellReply::Ack(other)) => *one == *other,
         (CellReply::Open, CellReply::Open) => true,
