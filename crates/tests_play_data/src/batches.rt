@@ -2,7 +2,7 @@
 
 use crate::parts::{T1, UpdateParts, alone, update};
 use std::alloc::Global;
-use table_types::{Batch, BatchError, Update};
+use table_types::{Batch, BatchError, Roster, TableDef, Update};
 
 /// Updates, how often the list of them is repeated, and what a batch is refused for, if it is.
 pub type Parts = (&'static [UpdateParts], u32, Option<BatchError>);
@@ -17,18 +17,35 @@ fn repeated(alloc: Global, given: &[UpdateParts], times: u32) -> Option<Vec<Upda
     Some(updates)
 }
 
-/// Returns what the updates are refused for as a batch of a roster of `t1` alone, and as one of `t1` itself.
-fn faults_of(alloc: Global, given: &[UpdateParts], times: u32) -> Option<[Option<BatchError>; 2]> {
-    let roster = alone(alloc, &T1)?;
-    let of_roster = Batch::new(alloc, &roster, repeated(alloc, given, times)?);
-    let of_table = Batch::of_table(alloc, roster.table(T1.id)?, repeated(alloc, given, times)?);
-    Some([of_roster.err(), of_table.err()])
+/// Returns whether the updates are refused for their fault as a batch of the roster, or accepted if they have none.
+fn is_right_for_roster(alloc: Global, roster: &Roster, parts: &Parts) -> Option<bool> {
+    let (given, times, fault) = parts;
+    let batch = Batch::new(alloc, roster, repeated(alloc, *given, *times)?);
+    Some(batch.err() == *fault)
+}
+
+/// Returns whether the updates are refused for their fault as a batch of the table, or accepted if they have none.
+fn is_right_for_table(alloc: Global, table: &TableDef, parts: &Parts) -> Option<bool> {
+    let (given, times, fault) = parts;
+    let batch = Batch::of_table(alloc, table, repeated(alloc, *given, *times)?);
+    Some(batch.err() == *fault)
+}
+
+fn is_right_for_both(alloc: Global, roster: &Roster, parts: &Parts) -> Option<bool> {
+    let for_table = is_right_for_table(alloc, roster.table(T1.id)?, parts)?;
+    Some(for_table && is_right_for_roster(alloc, roster, parts)?)
+}
+
+/// Returns whether the updates are refused for their fault, or accepted if they have none, as a batch of a roster of `t1` alone and
+/// as one of `t1` itself.
+fn is_right(alloc: Global, parts: &Parts) -> Option<bool> {
+    is_right_for_both(alloc, &alone(alloc, &T1)?, parts)
 }
 
 /// Returns the index of the first batch that is refused for another fault, or accepted though it has one.
 pub fn first_failing(alloc: Global, all: &[Parts]) -> Option<usize> {
-    for (place, (given, times, fault)) in all.iter().enumerate() {
-        if faults_of(alloc, *given, *times) != Some([*fault, *fault]) {
+    for (place, parts) in all.iter().enumerate() {
+        if is_right(alloc, parts) != Some(true) {
             return Some(place);
         }
     }

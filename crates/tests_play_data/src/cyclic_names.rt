@@ -5,10 +5,10 @@ ghost use Rattle.std.specs.Prelude.{IfSome};
 
 use crate::parts::{ST, alone, definition, named, text_key};
 use known_state::Known;
-use peers_msg::{Decoder, Message, NameField, UpdateMsg, encode};
+use peers_msg::{Decoder, Message, NameField, UpdateMsg, append};
 use std::alloc::Global;
 use table_types::{Batch, Items, Key, Name, ShortList, Update};
-use teach_writer::teach;
+use teach_writer::{Lesson, teach};
 
 /// How many names there are, and how many updates.
 const NAMES: u32 = 129;
@@ -47,15 +47,24 @@ fn updates(alloc: Global) -> Option<Vec<Update>> {
 }
 
 /// Makes the known state in which nothing is known of `st`.
-pub(crate) fn known(alloc: Global) -> Option<Known> {
+fn known(alloc: Global) -> Option<Known> {
     Known::fresh(alloc, alone(alloc, &ST)?).ok()
 }
 
 /// Makes the batch of the updates.
-pub(crate) fn batch(alloc: Global, known: &Known) -> Option<Batch>
+fn batch(alloc: Global, known: &Known) -> Option<Batch>
     ensures { IfSome result (λ batch. IsBatchFor known.now.roster batch) }
 {
     Batch::new(alloc, known.roster(), updates(alloc)?).ok()
+}
+
+/// Makes the known state in which nothing is known of `st`, and the batch of the updates.
+pub(crate) fn prepared(alloc: Global) -> Option<(Known, Batch)>
+    ensures { IfSome result (λ made. IsBatchFor made.0.roster made.1) }
+{
+    let known = known(alloc)?;
+    let batch = batch(alloc, &known)?;
+    Some((known, batch))
 }
 
 /// The place from 0 at which `n127` is named again. Until then `n128` has its slot, and from then on `n127` has that of `n000`.
@@ -84,22 +93,29 @@ fn message(alloc: Global, place: u32) -> Option<UpdateMsg> {
     Some(UpdateMsg::new(number, Some(30_000), key, values, name))
 }
 
-fn append(alloc: Global, stream: &mut Vec<u8>, message: &Message) -> Option<()> {
-    let bytes = encode(alloc, message).ok()?;
-    stream.extend_from_slice(bytes.as_slice()).ok()
+fn append_definition(alloc: Global, stream: &mut Vec<u8>) -> Option<()> {
+    let message = Message::Define(definition(alloc, &ST)?);
+    append(stream, &message).ok()
+}
+
+/// Appends the message of the update at a place from 0.
+fn append_update(alloc: Global, stream: &mut Vec<u8>, place: u32) -> Option<()> {
+    let message = Message::Update(message(alloc, place)?);
+    append(stream, &message).ok()
+}
+
+fn append_all(alloc: Global, stream: &mut Vec<u8>) -> Option<()> {
+    append_definition(alloc, stream)?;
+    for place in 0..UPDATES {
+        append_update(alloc, stream, place)?;
+    }
+    Some(())
 }
 
 /// Makes a shortest lesson of the updates, by hand: 3,508 bytes, in which 130 names are written and 128 read.
 pub(crate) fn lesson(alloc: Global) -> Option<Vec<u8>> {
     let mut stream = Vec::new(alloc);
-    append(
-        alloc,
-        &mut stream,
-        &Message::Define(definition(alloc, &ST)?),
-    )?;
-    for place in 0..UPDATES {
-        append(alloc, &mut stream, &Message::Update(message(alloc, place)?))?;
-    }
+    append_all(alloc, &mut stream)?;
     Some(stream)
 }
 
@@ -124,10 +140,8 @@ impl Names {
     }
 }
 
-/// Returns how many names the messages of a lesson of the updates write, and how many they read.
-fn names_in(alloc: Global, lesson: &[u8]) -> Option<Names> {
-    let mut decoder = Decoder::new(alloc);
-    decoder.feed(lesson).ok()?;
+/// Returns how many names the next messages write, as many messages as a lesson of the updates has, and how many they read.
+fn next_names(decoder: &mut Decoder) -> Option<Names> {
     let mut names = Names {
         written: 0,
         read: 0,
@@ -139,13 +153,21 @@ fn names_in(alloc: Global, lesson: &[u8]) -> Option<Names> {
     Some(names)
 }
 
+/// Returns how many names the messages of a lesson of the updates write, and how many they read.
+fn names_in(alloc: Global, lesson: &[u8]) -> Option<Names> {
+    let mut decoder = Decoder::new(alloc);
+    decoder.feed(lesson).ok()?;
+    next_names(&mut decoder)
+}
+
+fn lesson_taught(alloc: Global) -> Option<Lesson> {
+    let (known, batch) = prepared(alloc)?;
+    teach(alloc, &known, &batch).ok()
+}
+
 /// Returns how many bytes the lesson of the updates has, and how many names it writes and reads.
 pub fn names_taught(alloc: Global) -> Option<(usize, Names)> {
-    let known = known(alloc)?;
-    let batch = batch(alloc, &known)?;
-    let lesson = teach(alloc, &known, &batch).ok()?;
-    Some((
-        lesson.bytes.len(),
-        names_in(alloc, lesson.bytes.as_slice())?,
-    ))
+    let lesson = lesson_taught(alloc)?;
+    let names = names_in(alloc, lesson.bytes.as_slice())?;
+    Some((lesson.bytes.len(), names))
 }

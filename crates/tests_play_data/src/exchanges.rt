@@ -3,7 +3,7 @@
 ghost use Rattle.std.specs.Prelude.{◌≡◌, ℕ, List, [], IfErr, IfOk, IfSome, OnOk};
 ghost use Rattle.table_types.specs.declared.update.Update.{Update};
 ghost use Rattle.table_types.specs.Batches.{IsBatchFor};
-ghost use Rattle.known_state.specs.Known.{KnownState};
+ghost use Rattle.known_state.specs.Known.{KnownState, fresh_of};
 ghost use Rattle.known_state.specs.Lessons.{IsLessonFor};
 ghost use Rattle.learner.specs.declared.fault.Fault.{Fault};
 ghost use Rattle.learner.specs.declared.fault.Fault.TheVariants as faults;
@@ -16,7 +16,7 @@ use crate::parts::{TableParts, UpdateParts, alone, are_held, updates};
 use known_state::Known;
 use learner::{Fault, Learner};
 use std::alloc::Global;
-use table_types::{Batch, Moment};
+use table_types::{Batch, Moment, Roster};
 use teach_writer::{Lesson, teach};
 
 /// Feeds the learner `bytes` at `now`: a piece of each of these lengths, as far as the bytes last, and the rest as one more
@@ -140,14 +140,35 @@ fn stands_at(known: &Known, exchange: &Exchange) -> bool {
         && are_held(known.slots(), exchange.held)
 }
 
+/// Makes the known state of a learner of the roster that has received nothing.
+fn fresh(alloc: Global, roster: &Roster) -> Option<Known>
+    ensures { IfSome result (λ known. known ≡ fresh_of roster.now) }
+{
+    Known::fresh(alloc, roster.copy(alloc).ok()?).ok()
+}
+
+/// Teaches the batches, and returns whether they leave what they are to leave.
+fn teaches(
+    alloc: Global,
+    learner: &mut Learner,
+    fresh: Known,
+    exchange: &Exchange,
+    lengths: &[usize],
+) -> Option<bool>
+    requires { IsReadyIn fresh learner.old }
+{
+    let known = teach_batches(alloc, learner, fresh, exchange.batches, lengths);
+    let stands = stands_at(&known?, exchange);
+    Some(stands && has_rows(learner, exchange.table.id, exchange.rows)?)
+}
+
 /// Returns whether the batches leave what they are to leave, if each lesson is cut into pieces of these lengths and the rest.
 fn leaves(alloc: Global, exchange: &Exchange, lengths: &[usize]) -> Option<bool> {
     let roster = alone(alloc, &exchange.table)?;
     let _sound = roster.tables();
-    let fresh = Known::fresh(alloc, roster.copy(alloc).ok()?).ok()?;
+    let fresh = fresh(alloc, &roster)?;
     let mut learner = Learner::new(alloc, roster).ok()?;
-    let known = teach_batches(alloc, &mut learner, fresh, exchange.batches, lengths)?;
-    Some(stands_at(&known, exchange) && has_rows(&learner, exchange.table.id, exchange.rows)?)
+    teaches(alloc, &mut learner, fresh, exchange, lengths)
 }
 
 /// Returns the index of the first exchange that leaves something else, and that of the way to cut its lessons.

@@ -3,7 +3,7 @@
 
 ghost use Rattle.table_types.specs.Batches.{IsBatchFor};
 
-use crate::cyclic_names::{batch, known};
+use crate::cyclic_names::prepared;
 use crate::learners::has_rows;
 use crate::outcomes::{Outcome, is_out};
 use crate::parts::{ST, alone, text_key};
@@ -27,8 +27,7 @@ fn is_taught(alloc: Global, known: &Known, batch: &Batch) -> Option<bool>
 }
 
 fn teaches(alloc: Global) -> Option<Outcome> {
-    let known = known(alloc)?;
-    let batch = batch(alloc, &known)?;
+    let (known, batch) = prepared(alloc)?;
     Some(match is_taught(alloc, &known, &batch) {
         Some(right) => Outcome::of(right),
         None => Outcome::refused(is_taught(alloc, &known, &batch) == Some(true)),
@@ -37,11 +36,11 @@ fn teaches(alloc: Global) -> Option<Outcome> {
 
 /// Makes the requests of the batch, with no name held.
 fn requested(alloc: Global) -> Option<Requested> {
-    let known = known(alloc)?;
-    let batch = batch(alloc, &known)?;
+    let (known, batch) = prepared(alloc)?;
+    let requests = known.costs(alloc, &batch).ok()?;
     Some(Requested {
         held: Vec::new(alloc),
-        requests: known.costs(alloc, &batch).ok()?,
+        requests,
     })
 }
 
@@ -178,16 +177,28 @@ fn fed(alloc: Global) -> Option<Learner> {
     }
 }
 
-fn make_ready(alloc: Global) -> Option<Ready> {
-    let (learner, key) = fed(alloc).zip(text_key(alloc, b"a"))?;
-    let (new, mut begun) = (Decoder::new(alloc), Decoder::new(alloc));
-    begun.feed(ONE_NAME_TWICE).ok()?;
+/// Makes a decoder of which a message waits.
+fn begun(alloc: Global) -> Option<Decoder> {
+    let mut decoder = Decoder::new(alloc);
+    decoder.feed(ONE_NAME_TWICE).ok()?;
+    Some(decoder)
+}
+
+/// Makes the requests of `TWICE`, and a plan for them.
+fn requested_and_planned(alloc: Global) -> Option<(Requested, Plan)> {
     let requested = asked(alloc, &TWICE)?;
     let plan = planned(alloc, TWICE.slots, &requested).ok()?;
+    Some((requested, plan))
+}
+
+fn make_ready(alloc: Global) -> Option<Ready> {
+    let learned = fed(alloc).zip(text_key(alloc, b"a"));
+    let waiting = begun(alloc).zip(requested_and_planned(alloc));
+    let ((learner, key), (begun, (requested, plan))) = learned.zip(waiting)?;
     Some(Ready {
         learner,
         key,
-        new,
+        new: Decoder::new(alloc),
         begun,
         requested,
         plan,

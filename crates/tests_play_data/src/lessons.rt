@@ -1,10 +1,13 @@
 //! Lessons, the known state in which each ends, and what names cost.
 
+ghost use Rattle.std.specs.Prelude.{IfSome};
+ghost use Rattle.table_types.specs.Batches.{IsBatchFor};
+
 use crate::parts::{KnownParts, UpdateParts, are_held, known, updates};
 use known_state::{Known, Request};
 use std::alloc::Global;
-use table_types::{Batch, Items, Update};
-use teach_writer::{Lesson, Pieces, TeachError, teach};
+use table_types::Batch;
+use teach_writer::{Lesson, Pieces, teach};
 
 /// The parts of a known state, updates, the bytes and the prices of their lesson, and the known state after it: the last number of
 /// the table, which is defined and selected, and the slots that hold `s1`.
@@ -17,38 +20,42 @@ pub struct Taught {
     pub held: &'static [u8],
 }
 
-fn lesson(alloc: Global, known: &Known, updates: Vec<Update>) -> Option<Lesson> {
+/// Makes the known state of these parts, and a batch of the updates for it.
+fn prepared(alloc: Global, from: &KnownParts, given: &[UpdateParts]) -> Option<(Known, Batch)>
+    ensures { IfSome result (λ made. IsBatchFor made.0.roster made.1) }
+{
+    let (known, updates) = known(alloc, from).zip(updates(alloc, given))?;
     let batch = Batch::new(alloc, known.roster(), updates).ok()?;
-    teach(alloc, known, &batch).ok()
+    Some((known, batch))
 }
 
-fn lesson_of(alloc: Global, taught: &Taught) -> Option<Lesson> {
-    let updates = updates(alloc, taught.updates)?;
-    lesson(alloc, &known(alloc, &taught.from)?, updates)
-}
-
-/// Returns whether table `id` alone is defined, is selected and has this last number, and the slots of `held` alone hold `s1`.
-fn stands_at(known: &Known, id: u64, last: u32, held: &[u8]) -> bool {
+/// Returns whether the table alone is defined, is selected and has its last number, and the slots of `held` alone hold `s1`.
+fn stands_at(known: &Known, taught: &Taught) -> bool {
     let received = known.received();
+    let id = taught.from.table.id;
     received.count() == 1
         && received.selected() == Some(id)
-        && known.last_numbers().last(id) == Some(last)
-        && are_held(known.slots(), held)
+        && known.last_numbers().last(id) == Some(taught.last)
+        && are_held(known.slots(), taught.held)
 }
 
 fn is_right(lesson: &Lesson, taught: &Taught) -> bool {
     lesson.bytes.as_slice() == taught.bytes
         && lesson.prices.as_slice() == taught.prices
-        && stands_at(
-            &lesson.known,
-            taught.from.table.id,
-            taught.last,
-            taught.held,
-        )
+        && stands_at(&lesson.known, taught)
+}
+
+/// Teaches the batch, and returns whether the lesson is right; `None` if memory runs out.
+fn teaches(alloc: Global, known: &Known, batch: &Batch, taught: &Taught) -> Option<bool>
+    requires { IsBatchFor known.now.roster batch.now }
+{
+    let lesson = teach(alloc, known, batch).ok()?;
+    Some(is_right(&lesson, taught))
 }
 
 fn is_taught(alloc: Global, taught: &Taught) -> Option<bool> {
-    Some(is_right(&lesson_of(alloc, taught)?, taught))
+    let (known, batch) = prepared(alloc, &taught.from, taught.updates)?;
+    teaches(alloc, &known, &batch, taught)
 }
 
 /// Returns the index of the first lesson that is another.
@@ -61,72 +68,134 @@ pub fn first_failing(alloc: Global, all: &[Taught]) -> Option<usize> {
     None
 }
 
+/// Teaches a copy of the batch to a learner in a copy of the known state, and returns whether the lesson is right.
+fn teaches_from_copies(alloc: Global, known: &Known, batch: &Batch, taught: &Taught) -> Option<bool>
+    requires { IsBatchFor known.now.roster batch.now }
+{
+    let known = known.copy(alloc).ok()?;
+    let batch = batch.copy().ok()?;
+    teaches(alloc, &known, &batch, taught)
+}
+
 /// Returns whether the lesson is right if copies of the known state and of the batch are taught.
 pub fn is_taught_from_copies(alloc: Global, taught: &Taught) -> Option<bool> {
-    let known = known(alloc, &taught.from)?;
-    let batch = Batch::new(alloc, known.roster(), updates(alloc, taught.updates)?).ok()?;
-    let (known, batch) = (known.copy(alloc).ok()?, batch.copy().ok()?);
-    let lesson = teach(alloc, &known, &batch).ok()?;
-    Some(is_right(&lesson, taught))
+    let (known, batch) = prepared(alloc, &taught.from, taught.updates)?;
+    teaches_from_copies(alloc, &known, &batch, taught)
+}
+
+/// Teaches the batch, a second time if memory runs out for the lesson, and returns whether the lesson is right.
+fn teaches_at_last(alloc: Global, known: &Known, batch: &Batch, taught: &Taught) -> bool
+    requires { IsBatchFor known.now.roster batch.now }
+{
+    match teaches(alloc, known, batch, taught) {
+        Some(right) => right,
+        None => teaches(alloc, known, batch, taught) == Some(true),
+    }
 }
 
 /// Returns whether the lesson is right, taught a second time if memory ran out for it; `None` if memory ran out before.
 pub fn is_taught_again(alloc: Global, taught: &Taught) -> Option<bool> {
-    let known = known(alloc, &taught.from)?;
-    let batch = Batch::new(alloc, known.roster(), updates(alloc, taught.updates)?).ok()?;
-    let lesson = match teach(alloc, &known, &batch) {
-        Ok(lesson) => Ok(lesson),
-        Err(TeachError::Memory) => teach(alloc, &known, &batch),
-    };
-    match lesson {
-        Ok(lesson) => Some(is_right(&lesson, taught)),
-        Err(TeachError::Memory) => Some(false),
+    let (known, batch) = prepared(alloc, &taught.from, taught.updates)?;
+    Some(teaches_at_last(alloc, &known, &batch, taught))
+}
+
+/// Returns whether the next piece is these bytes.
+fn gives(pieces: &mut Pieces, bytes: &[u8]) -> bool {
+    match pieces.next() {
+        Ok(Some(piece)) => piece.as_slice() == bytes,
+        _ => false,
     }
 }
 
-/// Returns the lesson, if it comes in pieces of these sizes and then no more, however often it is asked for one. It isn't ended
-/// before, and `end` hands the pieces back.
-fn joined(alloc: Global, pieces: Pieces, sizes: &[usize]) -> Option<Lesson> {
-    let mut pieces = pieces;
-    let keep = Vec::from_slice(alloc, pieces.keep()).ok()?;
-    let mut bytes = Vec::new(alloc);
-    let mut ends = Vec::new(alloc);
+/// Returns whether the next pieces have these sizes, and are together the bytes.
+fn gives_all(pieces: &mut Pieces, bytes: &[u8], sizes: &[usize]) -> bool {
+    let mut rest = bytes;
     for size in sizes {
-        let piece = pieces.next().ok()??;
-        if piece.len() != *size {
-            return None;
+        let (piece, others) = rest.split_at((*size).min(rest.len()));
+        if piece.len() != *size || !gives(pieces, piece) {
+            return false;
         }
-        bytes.extend_from_slice(piece.as_slice()).ok()?;
-        ends.push(bytes.len()).ok()?;
-        pieces = pieces.end().err()?;
+        rest = others;
     }
-    for _ in 0..2 {
-        if pieces.next().ok()?.is_some() {
-            return None;
+    rest.is_empty()
+}
+
+fn gives_none(pieces: &mut Pieces) -> bool {
+    match pieces.next() {
+        Ok(piece) => piece.is_none(),
+        Err(_) => false,
+    }
+}
+
+/// Returns whether `end` returns the right prices and the right known state.
+fn ends_right(pieces: Pieces, taught: &Taught) -> bool {
+    match pieces.end() {
+        Ok((prices, known)) => prices.as_slice() == taught.prices && stands_at(&known, taught),
+        Err(_) => false,
+    }
+}
+
+/// Returns whether `end` hands the pieces back, all of which `next` has returned, until `next` returns `None`, which it does twice;
+/// and whether `end` then returns what it should.
+fn ends_after_none(pieces: Pieces, taught: &Taught) -> bool {
+    match pieces.end() {
+        Ok(_) => false,
+        Err(mut pieces) => {
+            let none_left = gives_none(&mut pieces) && gives_none(&mut pieces);
+            ends_right(pieces, taught) && none_left
         }
     }
-    let (prices, known) = pieces.end().ok()?;
-    Some(Lesson {
-        bytes: Items::new(bytes),
-        ends: Items::new(ends),
-        keep: Items::new(keep),
-        prices: Items::new(prices),
-        known,
-    })
+}
+
+/// Returns whether messages of these sizes, one after another, end at these places.
+fn are_ends(places: &[usize], sizes: &[usize]) -> bool {
+    let mut end: usize = 0;
+    for (place, size) in places.iter().zip(sizes) {
+        end = end.saturating_add(*size);
+        if *place != end {
+            return false;
+        }
+    }
+    places.len() == sizes.len()
+}
+
+/// Teaches the batch, and returns whether the lesson follows a plan that keeps these requests, and knows that its messages have
+/// these sizes.
+fn is_planned(
+    alloc: Global,
+    known: &Known,
+    batch: &Batch,
+    keep: &[bool],
+    sizes: &[usize],
+) -> Option<bool>
+    requires { IsBatchFor known.now.roster batch.now }
+{
+    let lesson = teach(alloc, known, batch).ok()?;
+    Some(lesson.keep.as_slice() == keep && are_ends(lesson.ends.as_slice(), sizes))
+}
+
+/// Returns what `comes_in_pieces` does, for this known state and this batch.
+fn is_cut(
+    alloc: Global,
+    known: &Known,
+    batch: &Batch,
+    taught: &Taught,
+    sizes: &[usize],
+) -> Option<bool>
+    requires { IsBatchFor known.now.roster batch.now }
+{
+    let mut pieces = Pieces::new(alloc, known, batch).ok()?;
+    let planned = is_planned(alloc, known, batch, pieces.keep(), sizes);
+    let given = gives_all(&mut pieces, taught.bytes, sizes);
+    let ended = ends_after_none(pieces, taught);
+    Some(planned? && given && ended)
 }
 
 /// Returns whether the lesson is right, comes in pieces of these sizes and by the plan that it names, and knows that its
 /// messages end where they do.
 pub fn comes_in_pieces(alloc: Global, taught: &Taught, sizes: &[usize]) -> Option<bool> {
-    let known = known(alloc, &taught.from)?;
-    let batch = Batch::new(alloc, known.roster(), updates(alloc, taught.updates)?).ok()?;
-    let pieces = joined(alloc, Pieces::new(alloc, &known, &batch).ok()?, sizes)?;
-    let lesson = teach(alloc, &known, &batch).ok()?;
-    Some(
-        is_right(&pieces, taught)
-            && lesson.keep.as_slice() == pieces.keep.as_slice()
-            && lesson.ends.as_slice() == pieces.ends.as_slice(),
-    )
+    let (known, batch) = prepared(alloc, &taught.from, taught.updates)?;
+    is_cut(alloc, &known, &batch, taught, sizes)
 }
 
 /// A known state, updates, and the size of the message of each with its name read, and with it written.
@@ -136,8 +205,8 @@ pub struct Costly {
     pub costs: &'static [(u32, u32)],
 }
 
-fn requests(alloc: Global, known: &Known, updates: Vec<Update>) -> Option<Vec<Request>> {
-    let batch = Batch::new(alloc, known.roster(), updates).ok()?;
+fn requests(alloc: Global, costly: &Costly) -> Option<Vec<Request>> {
+    let (known, batch) = prepared(alloc, &costly.from, costly.updates)?;
     known.costs(alloc, &batch).ok()
 }
 
@@ -161,7 +230,6 @@ fn are_requests(alloc: Global, requests: &[Request], costs: &[(u32, u32)]) -> Op
 
 /// Returns whether the requests of these updates are for `s1` at these costs.
 pub fn names_cost(alloc: Global, costly: &Costly) -> Option<bool> {
-    let updates = updates(alloc, costly.updates)?;
-    let requests = requests(alloc, &known(alloc, &costly.from)?, updates)?;
+    let requests = requests(alloc, costly)?;
     are_requests(alloc, requests.as_slice(), costly.costs)
 }

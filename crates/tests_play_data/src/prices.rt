@@ -2,7 +2,7 @@
 
 ghost use Rattle.table_types.specs.Batches.{IsBatchFor};
 
-use crate::cyclic_names::{batch, known, lesson};
+use crate::cyclic_names::{lesson, prepared};
 use known_state::Known;
 use price_checker::{Verdict, verify};
 use std::alloc::Global;
@@ -77,9 +77,8 @@ fn is_judged(
 
 /// Makes the lesson, and returns whether it is judged as it should be.
 fn comes_true(alloc: Global, judged: &Judged) -> Option<bool> {
-    let known = known(alloc)?;
-    let batch = batch(alloc, &known)?;
     let lesson = lesson(alloc)?;
+    let (known, batch) = prepared(alloc)?;
     is_judged(alloc, &known, &batch, lesson.as_slice(), judged)
 }
 
