@@ -6,6 +6,7 @@ use Rattle.session_core.specs.declared.share.Share.{Share}
 use Rattle.session_core.specs.Actions.{reopens}
 use Rattle.session_core.specs.Standing.{is_reopen}
 use Rattle.session_core.specs.Shares.{any_out, is_out, out_set, unquieted}
+use Rattle.session_core.specs.Courses.{is_held}
 use Rattle.session_core.proofs.StaysOut.{out_other, out_unquieted}
 
 -- ---- tables
@@ -63,8 +64,9 @@ set_unquieted table (s ∷ ss) = rw (one_unquieted (s.table == table) s, set_unq
 
 -- ---- what is shared
 
--- the tables; whether a resync request waits for a batch; whether a resync began; and whether a table was reopened
+-- whether the session stays; the tables; whether a resync request waits; whether a resync began; and whether a table was reopened
 pub record Sharing : Type 0 where
+  pub stays : Bool
   pub shares : List Share
   pub waits : Bool
   pub anew : Bool
@@ -75,26 +77,26 @@ abbrev pub some_table : List Share → Bool
 some_table ss = list_any is_reopen (reopens ss)
 
 abbrev pub anew_in : Sharing → Sharing
-anew_in a = record { shares = unquieted a.shares; waits = false; anew = true; reopened = a.reopened || some_table a.shares }
+anew_in a = record { stays = a.stays; shares = unquieted a.shares; waits = false; anew = true; reopened = a.reopened || some_table a.shares }
 
 -- a resync is requested
 abbrev pub requested_if : Bool → Sharing → Sharing
-requested_if true a = record { shares = a.shares; waits = true; anew = a.anew; reopened = a.reopened }
+requested_if true a = record { stays = a.stays; shares = a.shares; waits = true; anew = a.anew; reopened = a.reopened }
 requested_if false a = anew_in a
 
 abbrev pub requested_in : Sharing → Sharing
-requested_in a = requested_if (any_out a.shares) a
+requested_in a = requested_if (is_held a.stays a.shares) a
 
 abbrev pub begun_if : Bool → Sharing → Sharing
 begun_if true a = anew_in a
 begun_if false a = a
 
 abbrev pub freed : ℕ → Sharing → Sharing
-freed table a = record { shares = out_set table false a.shares; waits = a.waits; anew = a.anew; reopened = a.reopened }
+freed table a = record { stays = a.stays; shares = out_set table false a.shares; waits = a.waits; anew = a.anew; reopened = a.reopened }
 
 -- whether a resync that waits begins once `table` has no batch out
 abbrev pub begins : ℕ → Sharing → Bool
-begins table a = a.waits && not (any_out (out_set table false a.shares))
+begins table a = a.waits && not (is_held a.stays (out_set table false a.shares))
 
 -- `table` answers: that all is settled, if so
 abbrev pub settled_if : Bool → ℕ → Sharing → Sharing
@@ -126,19 +128,26 @@ or_twice false false = refl
 -- a resync that begins again changes nothing more
 anew_twice : (a : Sharing) → anew_in (anew_in a) ≡ anew_in a
 anew_twice a =
-    ap (λ (ss : List Share). record { shares = ss; waits = false; anew = true; reopened = (a.reopened || some_table a.shares) || some_table (unquieted a.shares) }) (unquieted_twice a.shares)
-    ∙ ap (λ (b : Bool). record { shares = unquieted a.shares; waits = false; anew = true; reopened = (a.reopened || some_table a.shares) || b }) (some_unquieted a.shares)
-    ∙ ap (λ (b : Bool). record { shares = unquieted a.shares; waits = false; anew = true; reopened = b }) (or_twice a.reopened (some_table a.shares))
+    ap (λ (ss : List Share). record { stays = a.stays; shares = ss; waits = false; anew = true; reopened = (a.reopened || some_table a.shares) || some_table (unquieted a.shares) }) (unquieted_twice a.shares)
+    ∙ ap (λ (b : Bool). record { stays = a.stays; shares = unquieted a.shares; waits = false; anew = true; reopened = (a.reopened || some_table a.shares) || b }) (some_unquieted a.shares)
+    ∙ ap (λ (b : Bool). record { stays = a.stays; shares = unquieted a.shares; waits = false; anew = true; reopened = b }) (or_twice a.reopened (some_table a.shares))
 
 -- a table whose batch is gone, before a resync begins or after
 anew_freed : (table : ℕ) (a : Sharing) → freed table (anew_in a) ≡ anew_in (freed table a)
 anew_freed table a =
-    ap (λ (ss : List Share). record { shares = ss; waits = false; anew = true; reopened = a.reopened || some_table a.shares }) (set_unquieted table a.shares)
-    ∙ ap (λ (b : Bool). record { shares = unquieted (out_set table false a.shares); waits = false; anew = true; reopened = a.reopened || b }) (sym (some_set table a.shares))
+    ap (λ (ss : List Share). record { stays = a.stays; shares = ss; waits = false; anew = true; reopened = a.reopened || some_table a.shares }) (set_unquieted table a.shares)
+    ∙ ap (λ (b : Bool). record { stays = a.stays; shares = unquieted (out_set table false a.shares); waits = false; anew = true; reopened = a.reopened || b }) (sym (some_set table a.shares))
 
--- by whether a batch is out, whether a request waits, and whether a batch is out without that of `table`
-commutes_by : (x w y : Bool) (table : ℕ) (a : Sharing) → any_out a.shares ≡ x → any_out (out_set table false a.shares) ≡ y
-    → begun_if ((requested_if x a).waits && not (any_out (out_set table false (requested_if x a).shares))) (freed table (requested_if x a))
+held_less : (stays : Bool) (table : ℕ) (ss : List Share) → is_held stays ss ≡ false → is_held stays (out_set table false ss) ≡ false
+held_less true table ss none = none
+held_less false table ss none = any_less table ss none
+
+held_unquieted : (stays : Bool) (ss : List Share) → is_held stays (unquieted ss) ≡ is_held stays ss
+held_unquieted stays ss = ap (λ (b : Bool). stays || b) (any_unquieted ss)
+
+-- by whether a request is held, whether one waits, and whether one is held without the batch of `table`
+commutes_by : (x w y : Bool) (table : ℕ) (a : Sharing) → is_held a.stays a.shares ≡ x → is_held a.stays (out_set table false a.shares) ≡ y
+    → begun_if ((requested_if x a).waits && not (is_held (requested_if x a).stays (out_set table false (requested_if x a).shares))) (freed table (requested_if x a))
     ≡ requested_in (begun_if (w && not y) (freed table a))
 commutes_by true w true table a is_x is_y = rw (is_y) (by w)
   where
@@ -146,12 +155,12 @@ commutes_by true w true table a is_x is_y = rw (is_y) (by w)
     by true = rw is_y refl
     by false = rw is_y refl
 commutes_by true true false table a is_x is_y =
-    let still : any_out (unquieted (out_set table false a.shares)) ≡ false = any_unquieted (out_set table false a.shares) ∙ is_y in
+    let still : is_held a.stays (unquieted (out_set table false a.shares)) ≡ false = held_unquieted a.stays (out_set table false a.shares) ∙ is_y in
     rw (is_y, still) (sym (anew_twice (freed table a)))
 commutes_by true false false table a is_x is_y = rw is_y refl
-commutes_by false w true table a is_x is_y = absurd (false≢true (sym (any_less table a.shares is_x) ∙ is_y))
+commutes_by false w true table a is_x is_y = absurd (false≢true (sym (held_less a.stays table a.shares is_x) ∙ is_y))
 commutes_by false true false table a is_x is_y =
-    let still : any_out (unquieted (out_set table false a.shares)) ≡ false = any_unquieted (out_set table false a.shares) ∙ is_y in
+    let still : is_held a.stays (unquieted (out_set table false a.shares)) ≡ false = held_unquieted a.stays (out_set table false a.shares) ∙ is_y in
     rw still (anew_freed table a ∙ sym (anew_twice (freed table a)))
 commutes_by false false false table a is_x is_y = rw is_y (anew_freed table a)
 
@@ -160,12 +169,12 @@ out_requested t true a = refl
 out_requested t false a = out_unquieted t a.shares
 
 commutes_if : (b : Bool) (table : ℕ) (a : Sharing) → settled_if b table (requested_in a) ≡ requested_in (settled_if b table a)
-commutes_if true table a = commutes_by (any_out a.shares) a.waits (any_out (out_set table false a.shares)) table a refl refl
+commutes_if true table a = commutes_by (is_held a.stays a.shares) a.waits (is_held a.stays (out_set table false a.shares)) table a refl refl
 commutes_if false table a = refl
 
 answer_commutes : (settles : ℕ → ℕ → Bool) (table number : ℕ) (a : Sharing) → answered_in settles (table, number) (requested_in a) ≡ requested_in (answered_in settles (table, number) a)
 answer_commutes settles table number a =
-    ap (λ (out : Bool). settled_if (out && settles table number) table (requested_in a)) (out_requested table (any_out a.shares) a)
+    ap (λ (out : Bool). settled_if (out && settles table number) table (requested_in a)) (out_requested table (is_held a.stays a.shares) a)
     ∙ commutes_if (is_out table a.shares && settles table number) table a
 
 pub request_commutes : (settles : ℕ → ℕ → Bool) (acks : List (ℕ × ℕ)) (a : Sharing) → all_answered settles acks (requested_in a) ≡ requested_in (all_answered settles acks a)
@@ -201,7 +210,7 @@ all_less settles t [] a none = none
 all_less settles t ((table, number) ∷ acks) a none = all_less settles t acks (answered_in settles (table, number) a) (answer_less settles t table number a none)
 
 pub requested_out : (t : ℕ) (a : Sharing) → is_out t (requested_in a).shares ≡ is_out t a.shares
-requested_out t a = out_requested t (any_out a.shares) a
+requested_out t a = out_requested t (is_held a.stays a.shares) a
 
 -- ---- a session among its tables
 

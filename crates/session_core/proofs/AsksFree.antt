@@ -1,5 +1,5 @@
 -- Only tables that are free are asked for a batch: no batch of them is out and, in a resync, they aren't quiet.
-use Rattle.std.proofs.Common.{◌≡◌, ℕ, Bool, true, false, ◌&&◌, ◌||◌, ◌==◌, List, [], ◌∷◌, Option, Some, None, refl, sym, ap, ◌∙◌, subst, inl, inr, cond}
+use Rattle.std.proofs.Common.{◌≡◌, ℕ, Bool, true, false, not, ◌&&◌, ◌||◌, ◌==◌, List, [], ◌∷◌, Option, Some, None, refl, sym, ap, ◌∙◌, subst, inl, inr, cond}
 use Rattle.std.specs.Prelude.{is_some}
 use Rattle.std.proofs.lemmas.Bool.{cases_eq, ne_eqb, false≢true}
 use Rattle.table_types.specs.Tables.{Definition}
@@ -14,11 +14,10 @@ use Rattle.session_core.specs.Phases as phases
 use Rattle.session_core.specs.Shares.{is_out, next_table}
 use Rattle.session_core.specs.Courses.{Course, table_to_ask}
 use Rattle.session_core.specs.Sessions.{GoesIn}
-use Rattle.session_core.specs.Standing.{StandingState, Does, task_at, TakesTurn, Stands, speaking_v21}
+use Rattle.session_core.specs.Standing.{StandingState, Does, task_at, TakesTurn, Stands}
 use Rattle.session_core.specs.Runs.{copies}
 use Rattle.session_core.specs.StandingRuns.{Happening, Lasts, BeginsToStay, handed}
 use Rattle.session_core.specs.StandingSteps.{is_quiet}
-use Rattle.session_core.proofs.BegunToStay.{begins_v21}
 use Rattle.session_core.proofs.ShareLemmas.{ids_of, shares_in, IsFree, next_free}
 use Rattle.session_core.proofs.NamesKept.{copied_is_asked, copies_begun}
 use Rattle.session_core.proofs.RunLemmas.{IsKeptIn, IsSound}
@@ -58,19 +57,19 @@ free_in t teaching ids out quiet (not_out, unquiet) = (none_out t ids out quiet 
 
 -- ---- a turn copies from the table to ask
 
-asked_next : (waits : Bool) (o : Option ℕ) (t : ℕ) → cond waits None o ≡ Some t → o ≡ Some t
+asked_next : (held : Bool) (o : Option ℕ) (t : ℕ) → cond held None o ≡ Some t → o ≡ Some t
 asked_next true o t is = absurd (false≢true (ap (λ (x : Option ℕ). is_some x) is))
 asked_next false o t is = is
 
-next_is_free : (t : ℕ) (steps : List (Event × List Action)) (ids : List ℕ) (c : Course) → IsSound ids steps c → next_table c.teaching c.asked c.shares ≡ Some t → IsFreeIn t c.teaching c.shares
+next_is_free : (t : ℕ) (steps : List (Event × List Action)) (ids : List ℕ) (c : Course) → IsSound true ids steps c → next_table c.teaching c.asked c.shares ≡ Some t → IsFreeIn t c.teaching c.shares
 next_is_free t steps ids c (out, quiet, flags, sound) next =
     let next_in : next_table c.teaching c.asked (shares_in ids out quiet) ≡ Some t = subst (λ (ss : List Share). next_table c.teaching c.asked ss ≡ Some t) flags.0 next in
     subst (IsFreeIn t c.teaching) (sym flags.0) (free_in t c.teaching ids out quiet (next_free c.teaching c.asked out quiet ids t next_in))
 
-free_does : (task : Task) (ids : List ℕ) (steps : List (Event × List Action)) (s e : StandingState) (c : Course) (now : ℕ) (acts : List Action) (table : ℕ) → s.session.phase ≡ phases.Open c → IsSound ids steps c → Does task s c now acts e → copies table acts ≡ true → IsFreeIn table c.teaching c.shares
+free_does : (task : Task) (ids : List ℕ) (steps : List (Event × List Action)) (s e : StandingState) (c : Course) (now : ℕ) (acts : List Action) (table : ℕ) → s.session.phase ≡ phases.Open c → IsSound true ids steps c → Does task s c now acts e → copies table acts ≡ true → IsFreeIn table c.teaching c.shares
 free_does tasks.Copy ids steps s e c now acts table stands sound does copied =
     let goes = subst (λ (p : Phase). GoesIn p s.session events.Turn acts e.session) stands does.0 in
-    next_is_free table steps ids c sound (asked_next c.waits (next_table c.teaching c.asked c.shares) table (copied_is_asked (table_to_ask c) s.session e.session c acts table goes.1 copied))
+    next_is_free table steps ids c sound (asked_next (c.waits && not c.stays) (next_table c.teaching c.asked c.shares) table (copied_is_asked (table_to_ask c) s.session e.session c acts table goes.1 copied))
 free_does tasks.Rest ids steps s e c now acts table stands sound (due, none, same) copied = absurd (false≢true (sym (ap (copies table) none) ∙ copied))
 free_does tasks.Begin ids steps s e c now acts table stands sound (due, begun, session, pace) copied =
     absurd (false≢true (sym (ap (copies table) begun ∙ copies_begun table c) ∙ copied))
@@ -78,11 +77,10 @@ free_does tasks.Begin ids steps s e c now acts table stands sound (due, begun, s
 -- ---- the law
 
 asks_free : (roster : List Definition) (begun s e : StandingState) (steps : List Happening) (c : Course) (now : ℕ) (acts : List Action) (table : ℕ) → BeginsToStay roster begun → Lasts begun steps s → s.session.phase ≡ phases.Open c → Stands s now events.Turn acts e → copies table acts ≡ true → IsFreeIn table c.teaching c.shares
-asks_free roster begun s e steps c now acts table (first, since, begins, is) lasts stands turns copied =
-    let start : IsKeptIn (ids_of roster) [] begun.session.phase = subst (λ (x : StandingState). IsKeptIn (ids_of roster) [] x.session.phase) (sym is) (begun_kept roster (speaking_v21 first) (begins_v21 roster first begins)) in
+asks_free roster begun s e steps c now acts table begins lasts stands turns copied =
     let ids : List ℕ = ids_of (rest_after roster steps) in
-    let kept : IsKeptIn ids (handed steps) s.session.phase = lasts_kept steps roster [] begun s start lasts in
-    let sound : IsSound ids (handed steps) c = subst (IsKeptIn ids (handed steps)) stands kept in
+    let kept : IsKeptIn true ids (handed steps) s.session.phase = lasts_kept steps roster [] begun s (begun_kept roster begun begins) lasts in
+    let sound : IsSound true ids (handed steps) c = subst (IsKeptIn true ids (handed steps)) stands kept in
     free_does (task_at now s.pace c) ids (handed steps) s e c now acts table stands sound (subst (λ (p : Phase). TakesTurn p s now acts e) stands turns) copied
 
 free_at : (roster : List Definition) (begun s e : StandingState) (steps : List Happening) (c : Course) (now : ℕ) (event : Event) (acts : List Action) (table : ℕ) → BeginsToStay roster begun → Lasts begun steps s → s.session.phase ≡ phases.Open c → Stands s now event acts e → copies table acts ≡ true → IsFreeIn table c.teaching c.shares

@@ -7,7 +7,6 @@ use Rattle.table_types.specs.declared.copies.Settled.{Settled}
 use Rattle.table_types.specs.declared.copies.Settled.TheVariants as settles
 use Rattle.table_types.specs.declared.version.Version.{Version}
 use Rattle.peers_msg.specs.Integers.{IsBytes}
-use Rattle.peers_msg.specs.declared.control.Control.TheVariants as controls
 use Rattle.peers_msg.proofs.FieldCanonical.{IsBytes-drop}
 use Rattle.peers_hello.specs.declared.hello.Hello.{Hello}
 use Rattle.peers_hello.specs.declared.hello.Answer.{Answer}
@@ -29,7 +28,7 @@ use Rattle.session_core.specs.Phases as phases
 use Rattle.session_core.specs.Actions.{sends_control, status_text}
 use Rattle.session_core.specs.Courses.{Course, course_fed, table_to_ask}
 use Rattle.session_core.specs.Runs.{BringsBytes, HoldsBytes, IsBegun, Runs}
-use Rattle.session_core.specs.Sessions.{SessionState, Accepts, Connects, FinishesResync, Goes, GoesHello, GoesIn, GoesNew, GoesOpen, Greets, HasNothing, IsWelcomed, ReceivesBytes, Settles, StartsPendingResync, Turns, answer_from, opening, speaking}
+use Rattle.session_core.specs.Sessions.{SessionState, Accepts, Connects, FinishesResync, Goes, GoesHello, GoesIn, GoesNew, GoesOpen, Greets, HasNothing, IsWelcomed, ReceivesBytes, Settles, StartsPendingResync, Turns, first_word, opening, speaking}
 use Rattle.session_core.proofs.IntakeGoesOn.{append_good}
 use Rattle.session_core.proofs.ReceivingGoesOn.{received_good}
 
@@ -65,7 +64,7 @@ pub fed_good : (c : Course) (used : ℕ) (bytes : List ℕ) → IsBytes c.intake
 fed_good c used bytes unread good = append_good c.intake.unread (drop used bytes) unread (IsBytes-drop used bytes good)
 
 held_welcomed : (welcome : Bool) (version : Version) (code : ℕ) (s e : SessionState) (c : Course) (rest : List ℕ) (acts : List Action) → IsBytes (course_fed c rest).intake.unread → IsWelcomed welcome version code s c rest acts e → HoldsBytes e.phase
-held_welcomed true version code s e c rest acts good receives = held_received (speaking version s) e (course_fed c rest) (sends_control controls.ResyncRequest ∷ opening version c.shares) acts good receives
+held_welcomed true version code s e c rest acts good receives = held_received (speaking version s) e (course_fed c rest) (sends_control (first_word c.stays) ∷ opening version c.shares) acts good receives
 held_welcomed false version code s e c rest acts good (is, ends) = held e _ ends tt
 
 held_connects : (version : Version) (status : Status) (s e : SessionState) (bytes : List ℕ) (c : Course) (acts : List Action) → IsBytes bytes → IsBytes c.intake.unread → Connects version status s bytes c acts e → HoldsBytes e.phase
@@ -81,7 +80,7 @@ held_accepts (answers.Refused code used) s e greeter bytes c acts good unread (i
 
 held_greets : (greeter : Greeter) (s e : SessionState) (bytes : List ℕ) (c : Course) (acts : List Action) → IsBytes bytes → IsBytes c.intake.unread → Greets s greeter bytes c acts e → HoldsBytes e.phase
 held_greets (greeters.Connects version) s e bytes c acts good unread goes = held_connects version (status_of bytes) s e bytes c acts good unread goes
-held_greets (greeters.Accepts own peers oldest) s e bytes c acts good unread goes = held_accepts (answer_from oldest (answer_of own peers bytes)) s e (greeters.Accepts own peers oldest) bytes c acts good unread goes
+held_greets (greeters.Accepts own peers) s e bytes c acts good unread goes = held_accepts (answer_of own peers bytes) s e (greeters.Accepts own peers) bytes c acts good unread goes
 
 held_hello : (s e : SessionState) (greeter : Greeter) (bytes : List ℕ) (c : Course) (event : Event) (acts : List Action) → IsBytes bytes × IsBytes c.intake.unread → BringsBytes event → GoesHello s greeter bytes c event acts e → HoldsBytes e.phase
 held_hello s e greeter bytes c (events.Bytes piece) acts holds brings goes = held_greets greeter s e (bytes ++ piece) c acts (append_good bytes piece holds.0 brings) holds.1 goes
@@ -144,7 +143,7 @@ step_holds s e event acts holds brings goes = held_in s.phase s e event acts hol
 
 begun_holds : (roster : List Definition) (s : SessionState) → IsBegun roster s → HoldsBytes s.phase
 begun_holds roster s (inl (hello, up_to_date, is)) = held s _ is (λ i. omega arith)
-begun_holds roster s (inr (oldest, own, peers, up_to_date, is)) = held s _ is ((λ i. omega arith), (λ i. omega arith))
+begun_holds roster s (inr (own, peers, up_to_date, is)) = held s _ is ((λ i. omega arith), (λ i. omega arith))
 
 runs_hold : (s e : SessionState) (steps : List (Event × List Action)) → HoldsBytes s.phase → AllByRecursion (λ step. BringsBytes step.0) steps → Runs s steps e → HoldsBytes e.phase
 runs_hold s e [] holds all here = held e s here holds

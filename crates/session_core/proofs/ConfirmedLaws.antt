@@ -27,7 +27,7 @@ use Rattle.session_core.specs.Phases as phases
 use Rattle.session_core.specs.declared.share.Share.{Share}
 use Rattle.session_core.specs.Actions.{confirms, reopens, sends_control, status_text}
 use Rattle.session_core.specs.Courses.{Course, course_fed, table_to_ask, finished}
-use Rattle.session_core.specs.Sessions.{SessionState, GoesIn, GoesNew, GoesHello, GoesOpen, Concludes, ReceivesBytes, IsWelcomed, Connects, Accepts, Greets, Turns, HasNothing, FinishesResync, StartsPendingResync, Settles, answer_from, opening, speaking}
+use Rattle.session_core.specs.Sessions.{SessionState, GoesIn, GoesNew, GoesHello, GoesOpen, Concludes, ReceivesBytes, IsWelcomed, Connects, Accepts, Greets, Turns, HasNothing, FinishesResync, StartsPendingResync, Settles, first_word, opening, speaking}
 use Rattle.session_core.specs.Runs.{Runs, IsBegun, was_confirmed}
 use Rattle.session_core.proofs.EndLemmas.{no_control}
 
@@ -72,7 +72,7 @@ said_new s hello c (events.Settled table settled) acts e goes = absurd goes
 said_new s hello c (events.Refused table) acts e goes = absurd goes
 
 said_welcomed : (b : Bool) (version : Version) (code : ℕ) (s : SessionState) (c : Course) (rest : List ℕ) (acts : List Action) (e : SessionState) → IsWelcomed b version code s c rest acts e → IsSaid s acts e
-said_welcomed true version code s c rest acts e receives = said_receives (speaking version s) (course_fed c rest) (sends_control controls.ResyncRequest ∷ opening version c.shares) acts e receives
+said_welcomed true version code s c rest acts e receives = said_receives (speaking version s) (course_fed c rest) (sends_control (first_word c.stays) ∷ opening version c.shares) acts e receives
 said_welcomed false version code s c rest acts e (is, ends) = unsaid s e _ acts (actions.Close ∷ []) is refl ends refl
 
 said_connects : (version : Version) (status : Status) (s : SessionState) (bytes : List ℕ) (c : Course) (acts : List Action) (e : SessionState) → Connects version status s bytes c acts e → IsSaid s acts e
@@ -90,7 +90,7 @@ said_accepts (answers.Refused code used) s greeter bytes c acts e (is, ends) = u
 
 said_greets : (s : SessionState) (greeter : Greeter) (bytes : List ℕ) (c : Course) (acts : List Action) (e : SessionState) → Greets s greeter bytes c acts e → IsSaid s acts e
 said_greets s (greeters.Connects version) bytes c acts e goes = said_connects version (status_of bytes) s bytes c acts e goes
-said_greets s (greeters.Accepts own peers oldest) bytes c acts e goes = said_accepts (answer_from oldest (answer_of own peers bytes)) s (greeters.Accepts own peers oldest) bytes c acts e goes
+said_greets s (greeters.Accepts own peers) bytes c acts e goes = said_accepts (answer_of own peers bytes) s (greeters.Accepts own peers) bytes c acts e goes
 
 said_hello : (s : SessionState) (greeter : Greeter) (bytes : List ℕ) (c : Course) (event : Event) (acts : List Action) (e : SessionState) → GoesHello s greeter bytes c event acts e → IsSaid s acts e
 said_hello s greeter bytes c (events.Bytes piece) acts e goes = said_greets s greeter (bytes ++ piece) c acts e goes
@@ -160,7 +160,7 @@ said_runs s e (step ∷ steps) (mid, goes, runs) =
 
 begins_unsaid : (roster : List Definition) (s : SessionState) → IsBegun roster s → s.confirmed ≡ false
 begins_unsaid roster s (inl (hello, up_to_date, is)) = ap (λ (x : SessionState). x.confirmed) is
-begins_unsaid roster s (inr (oldest, own, peers, up_to_date, is)) = ap (λ (x : SessionState). x.confirmed) is
+begins_unsaid roster s (inr (own, peers, up_to_date, is)) = ap (λ (x : SessionState). x.confirmed) is
 
 pub sent_where_confirmed : (roster : List Definition) (begun s : SessionState) (steps : List (Event × List Action)) → IsBegun roster begun → Runs begun steps s → s.confirmed ≡ was_confirmed steps
 sent_where_confirmed roster begun s steps begins runs =

@@ -19,10 +19,10 @@ use Rattle.learner.specs.Intake.{Taking, due_ack, due_acks}
 use Rattle.session_core.specs.declared.share.Share.{Share}
 use Rattle.session_core.specs.declared.action.Action.{Action}
 use Rattle.session_core.specs.declared.action.Action.TheVariants as actions
-use Rattle.session_core.specs.Actions.{control_text, sends_acks, status_text, reopens}
+use Rattle.session_core.specs.Actions.{control_text, sends_control, sends_acks, status_text, reopens}
 use Rattle.session_core.specs.Acks.{ack_of}
 use Rattle.session_core.specs.Courses.{Course, message_received, said, requested, ack_received, acknowledged, AreReceived}
-use Rattle.session_core.specs.Sessions.{opening}
+use Rattle.session_core.specs.Sessions.{first_word, opening}
 use Rattle.session_core.specs.Cutting.{without_acks}
 use Rattle.session_core.specs.Runs.{is_end, ends_resync, is_copy_of, copies}
 
@@ -41,6 +41,10 @@ plain_reopens id (s ∷ ss) = plain_reopens id ss
 plain_opening : (id : ℕ) (version : Version) (ss : List Share) → is_plain id (opening version ss)
 plain_opening id versions.V20 ss = plain_reopens id ss
 plain_opening id versions.V21 ss = (refl, refl)
+
+pub plain_word : (id : ℕ) (stays : Bool) → is_plain id (sends_control (first_word stays) ∷ [])
+plain_word id true = (refl, refl)
+plain_word id false = (refl, refl)
 
 -- what a session does on becoming Ready
 pub plain_ready : (id : ℕ) (first : Action) (version : Version) (ss : List Share) → is_plain id (first ∷ []) → is_plain id (first ∷ opening version ss)

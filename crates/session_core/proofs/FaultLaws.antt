@@ -5,7 +5,6 @@ use Rattle.table_types.specs.Tables.{Definition}
 use Rattle.table_types.specs.declared.copies.Settled.{Settled}
 use Rattle.table_types.specs.declared.copies.Settled.TheVariants as settles
 use Rattle.table_types.specs.declared.version.Version.{Version}
-use Rattle.peers_msg.specs.declared.control.Control.TheVariants as controls
 use Rattle.peers_hello.specs.declared.hello.Hello.{Hello}
 use Rattle.peers_hello.specs.declared.hello.Answer.{Answer}
 use Rattle.peers_hello.specs.declared.hello.Answer.TheVariants as answers
@@ -25,7 +24,7 @@ use Rattle.session_core.specs.Phases.{Phase}
 use Rattle.session_core.specs.Phases as phases
 use Rattle.session_core.specs.Actions.{sends_control, status_text}
 use Rattle.session_core.specs.Courses.{Course, course_fed, table_to_ask}
-use Rattle.session_core.specs.Sessions.{SessionState, GoesIn, GoesNew, GoesHello, GoesOpen, Concludes, ReceivesBytes, IsWelcomed, Connects, Accepts, Greets, Turns, HasNothing, FinishesResync, StartsPendingResync, Settles, answer_from, opening, speaking}
+use Rattle.session_core.specs.Sessions.{SessionState, GoesIn, GoesNew, GoesHello, GoesOpen, Concludes, ReceivesBytes, IsWelcomed, Connects, Accepts, Greets, Turns, HasNothing, FinishesResync, StartsPendingResync, Settles, first_word, opening, speaking}
 use Rattle.session_core.specs.Runs.{Runs, IsBegun}
 
 -- the session is over or has no fault
@@ -59,7 +58,7 @@ unfaulted_new s hello c (events.Settled table settled) acts e goes none = absurd
 unfaulted_new s hello c (events.Refused table) acts e goes none = absurd goes
 
 unfaulted_welcomed : (b : Bool) (version : Version) (code : ℕ) (s : SessionState) (c : Course) (rest : List ℕ) (acts : List Action) (e : SessionState) → IsWelcomed b version code s c rest acts e → s.fault ≡ None → IsFaultless e
-unfaulted_welcomed true version code s c rest acts e receives none = unfaulted_receives (speaking version s) (course_fed c rest) (sends_control controls.ResyncRequest ∷ opening version c.shares) acts e receives none
+unfaulted_welcomed true version code s c rest acts e receives none = unfaulted_receives (speaking version s) (course_fed c rest) (sends_control (first_word c.stays) ∷ opening version c.shares) acts e receives none
 unfaulted_welcomed false version code s c rest acts e (is, ends) none = keeps s e _ ends refl none
 
 unfaulted_connects : (version : Version) (status : Status) (s : SessionState) (bytes : List ℕ) (c : Course) (acts : List Action) (e : SessionState) → Connects version status s bytes c acts e → s.fault ≡ None → IsFaultless e
@@ -74,7 +73,7 @@ unfaulted_accepts (answers.Refused code used) s greeter bytes c acts e (is, ends
 
 unfaulted_greets : (s : SessionState) (greeter : Greeter) (bytes : List ℕ) (c : Course) (acts : List Action) (e : SessionState) → Greets s greeter bytes c acts e → s.fault ≡ None → IsFaultless e
 unfaulted_greets s (greeters.Connects version) bytes c acts e goes none = unfaulted_connects version (status_of bytes) s bytes c acts e goes none
-unfaulted_greets s (greeters.Accepts own peers oldest) bytes c acts e goes none = unfaulted_accepts (answer_from oldest (answer_of own peers bytes)) s (greeters.Accepts own peers oldest) bytes c acts e goes none
+unfaulted_greets s (greeters.Accepts own peers) bytes c acts e goes none = unfaulted_accepts (answer_of own peers bytes) s (greeters.Accepts own peers) bytes c acts e goes none
 
 unfaulted_hello : (s : SessionState) (greeter : Greeter) (bytes : List ℕ) (c : Course) (event : Event) (acts : List Action) (e : SessionState) → GoesHello s greeter bytes c event acts e → s.fault ≡ None → IsFaultless e
 unfaulted_hello s greeter bytes c (events.Bytes piece) acts e goes none = unfaulted_greets s greeter (bytes ++ piece) c acts e goes none
@@ -143,7 +142,7 @@ unfaulted_runs s e (step ∷ steps) (inr none) (mid, goes, runs) = unfaulted_run
 
 begins_unfaulted : (roster : List Definition) (s : SessionState) → IsBegun roster s → IsFaultless s
 begins_unfaulted roster s (inl (hello, up_to_date, is)) = inr (ap (λ (x : SessionState). x.fault) is)
-begins_unfaulted roster s (inr (oldest, own, peers, up_to_date, is)) = inr (ap (λ (x : SessionState). x.fault) is)
+begins_unfaulted roster s (inr (own, peers, up_to_date, is)) = inr (ap (λ (x : SessionState). x.fault) is)
 
 pub faultless_until_over : (roster : List Definition) (begun s : SessionState) (steps : List (Event × List Action)) → IsBegun roster begun → Runs begun steps s → (s.phase ≡ phases.Ended) ⊎ (s.fault ≡ None)
 faultless_until_over roster begun s steps begins runs = unfaulted_runs begun s steps (begins_unfaulted roster begun begins) runs

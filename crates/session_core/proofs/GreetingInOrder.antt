@@ -31,7 +31,7 @@ use Rattle.session_core.specs.Phases as phases
 use Rattle.session_core.specs.Actions.{confirms, sends_control, status_text}
 use Rattle.learner.specs.Intake.{fed}
 use Rattle.session_core.specs.Courses.{Course, course_fed}
-use Rattle.session_core.specs.Sessions.{Accepts, BecomesReady, Connects, GoesIn, Greets, IsWelcomed, ReceivesBytes, SessionState, answer_from, ended, falling_back, falls_back, in_phase, opening, speaking}
+use Rattle.session_core.specs.Sessions.{Accepts, BecomesReady, Connects, GoesIn, Greets, IsWelcomed, ReceivesBytes, SessionState, ended, falling_back, falls_back, first_word, in_phase, opening, speaking}
 use Rattle.session_core.specs.Runs.{HoldsBytes, IsBegun, Runs}
 use Rattle.session_core.specs.Standing.{is_open, is_reopen}
 use Rattle.session_core.specs.Cutting.{IsFedOut}
@@ -52,7 +52,7 @@ use Rattle.session_core.proofs.SameHoweverFed.{after_good}
 abbrev pub refusal : Greeter → Option ℕ → Bool
 refusal (greeters.Connects version) (Some code) = falls_back version code
 refusal (greeters.Connects version) None = false
-refusal (greeters.Accepts own peers oldest) code = false
+refusal (greeters.Accepts own peers) code = false
 
 -- what follows, by what the bytes amount to
 abbrev pub Met : Meeting → SessionState → Greeter → List ℕ → Course → List Action → SessionState → Type 0
@@ -70,8 +70,13 @@ opening_passed : (version : Version) (ss : List Share) → passed_on (opening ve
 opening_passed versions.V20 ss = passed_reopens ss
 opening_passed versions.V21 ss = refl
 
+-- nor does the first message of a session that connects
+word_says : (stays : Bool) (version : Version) (ss : List Share) → says_nothing (sends_control (first_word stays) ∷ opening version ss)
+word_says false version ss = (opening_plain version ss, opening_passed version ss)
+word_says true version ss = (opening_plain version ss, opening_passed version ss)
+
 welcomed_meets : (b : Bool) (version : Version) (code : ℕ) (s : SessionState) (bytes : List ℕ) (c : Course) (rest : List ℕ) (acts : List Action) (e : SessionState) → IsWelcomed b version code s c rest acts e → Met (opens_if b version code rest) s (greeters.Connects version) bytes c acts e
-welcomed_meets true version code s bytes c rest acts e receives = (sends_control controls.ResyncRequest, (opening_plain version c.shares, opening_passed version c.shares), refl, receives)
+welcomed_meets true version code s bytes c rest acts e receives = (sends_control (first_word c.stays), word_says c.stays version c.shares, refl, receives)
 welcomed_meets false version code s bytes c rest acts e (is, ends) = (ap plain is, ap confirms is, ends)
 
 connects_meets : (version : Version) (status : Status) (s : SessionState) (bytes : List ℕ) (c : Course) (acts : List Action) (e : SessionState) → Connects version status s bytes c acts e → Met (by_status version status bytes) s (greeters.Connects version) bytes c acts e
@@ -86,17 +91,17 @@ plain_status code acts = rw (no_control (decimal code) controls.ResyncConfirmed)
 status_confirms : (code : ℕ) (acts : List Action) → confirms (actions.Send (status_text code) ∷ acts) ≡ confirms acts
 status_confirms code acts = rw (no_control (decimal code) controls.ResyncConfirmed) refl
 
-accepts_meets : (answer : Answer) (s : SessionState) (own : List ℕ) (peers : List (List ℕ)) (oldest : Version) (bytes : List ℕ) (c : Course) (acts : List Action) (e : SessionState)
-    → Accepts answer s (greeters.Accepts own peers oldest) bytes c acts e → Met (by_answer answer bytes) s (greeters.Accepts own peers oldest) bytes c acts e
-accepts_meets answers.More s own peers oldest bytes c acts e goes = goes
-accepts_meets (answers.Accepted name version used) s own peers oldest bytes c acts e receives =
+accepts_meets : (answer : Answer) (s : SessionState) (own : List ℕ) (peers : List (List ℕ)) (bytes : List ℕ) (c : Course) (acts : List Action) (e : SessionState)
+    → Accepts answer s (greeters.Accepts own peers) bytes c acts e → Met (by_answer answer bytes) s (greeters.Accepts own peers) bytes c acts e
+accepts_meets answers.More s own peers bytes c acts e goes = goes
+accepts_meets (answers.Accepted name version used) s own peers bytes c acts e receives =
     (actions.Send (status_text 200), (plain_status 200 (opening version c.shares) ∙ opening_plain version c.shares, opening_passed version c.shares), refl, receives)
-accepts_meets (answers.Refused code used) s own peers oldest bytes c acts e (is, ends) =
+accepts_meets (answers.Refused code used) s own peers bytes c acts e (is, ends) =
     (ap plain is ∙ plain_status code (actions.Close ∷ []), ap confirms is ∙ status_confirms code (actions.Close ∷ []), ends)
 
 pub greets_meets : (greeter : Greeter) (s : SessionState) (bytes : List ℕ) (c : Course) (acts : List Action) (e : SessionState) → Greets s greeter bytes c acts e → Met (meeting greeter bytes) s greeter bytes c acts e
 greets_meets (greeters.Connects version) s bytes c acts e goes = connects_meets version (status_of bytes) s bytes c acts e goes
-greets_meets (greeters.Accepts own peers oldest) s bytes c acts e goes = accepts_meets (answer_from oldest (answer_of own peers bytes)) s own peers oldest bytes c acts e goes
+greets_meets (greeters.Accepts own peers) s bytes c acts e goes = accepts_meets (answer_of own peers bytes) s own peers bytes c acts e goes
 
 -- ---- the bytes after them
 
@@ -119,7 +124,7 @@ answer_good (answers.Refused code used) other bytes rest good is = cc
 
 meeting_good : (greeter : Greeter) (version : Version) (bytes rest : List ℕ) → IsBytes bytes → meeting greeter bytes ≡ Opens version rest → IsBytes rest
 meeting_good (greeters.Connects said) version bytes rest good is = status_good said version (status_of bytes) bytes rest good is
-meeting_good (greeters.Accepts own peers oldest) version bytes rest good is = answer_good (answer_from oldest (answer_of own peers bytes)) version bytes rest good is
+meeting_good (greeters.Accepts own peers) version bytes rest good is = answer_good (answer_of own peers bytes) version bytes rest good is
 
 -- ---- events one after another
 

@@ -396,7 +396,7 @@ follows_all settles c e left ((events.Refused table, acts) ∷ steps) s x a k ov
 
 -- what an open session shares
 abbrev pub sharing_of : Course → Sharing
-sharing_of c = record { shares = c.shares; waits = c.waits; anew = false; reopened = false }
+sharing_of c = record { stays = c.stays; shares = c.shares; waits = c.waits; anew = false; reopened = false }
 
 open_comes : (settles : ℕ → ℕ → Bool) (c : Course) (s e : SessionState) (step : Event × List Action) (steps : List (Event × List Action)) (left : List (ℕ × ℕ))
     → s.phase ≡ phases.Open c → IsBytes (c.intake.unread ++ heard_in (step ∷ steps)) → Hears settles s [] (step ∷ steps) e left

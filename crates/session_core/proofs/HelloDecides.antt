@@ -5,7 +5,6 @@ use Rattle.table_types.specs.Tables.{Definition}
 use Rattle.table_types.specs.declared.copies.Settled.{Settled}
 use Rattle.table_types.specs.declared.copies.Settled.TheVariants as settles
 use Rattle.table_types.specs.declared.version.Version.{Version}
-use Rattle.table_types.specs.declared.version.Version.TheVariants as versions
 use Rattle.peers_hello.specs.declared.hello.Hello.{Hello}
 use Rattle.peers_hello.specs.Hellos.{answer_of}
 use Rattle.peers_hello.specs.Meetings.{Meeting, Opens, Refuses, Waits, by_answer, by_status}
@@ -20,7 +19,7 @@ use Rattle.session_core.specs.declared.phase.Greeter.TheVariants as greeters
 use Rattle.session_core.specs.Phases.{Phase}
 use Rattle.session_core.specs.Phases as phases
 use Rattle.session_core.specs.Courses.{Course, course_fed, table_to_ask}
-use Rattle.session_core.specs.Sessions.{Concludes, FinishesResync, GoesHello, GoesIn, GoesNew, GoesOpen, HasNothing, ReceivesBytes, SessionState, Settles, StartsPendingResync, Turns, accepting_from, answer_from, connecting, opening, speaking}
+use Rattle.session_core.specs.Sessions.{Concludes, FinishesResync, GoesHello, GoesIn, GoesNew, GoesOpen, HasNothing, ReceivesBytes, SessionState, Settles, StartsPendingResync, Turns, accepting, connecting, opening, speaking}
 use Rattle.session_core.specs.Runs.{Runs, falls_back_in, version_in}
 use Rattle.session_core.specs.Hearing.{heard_in}
 use Rattle.session_core.proofs.GreetedHoweverCut.{meeting}
@@ -197,10 +196,10 @@ connected_so version (Refuses (Some code)) e decided = decided
 connected_so version (Refuses None) e decided = decided
 connected_so version Waits e decided = decided
 
-accepted_so : (own : List ℕ) (peers : List (List ℕ)) (oldest : Version) (m : Meeting) (e : SessionState) → Decides (greeters.Accepts own peers oldest) m e → (e.version ≡ version_in m) × (e.fell_back ≡ false)
-accepted_so own peers oldest (Opens other rest) e decided = decided
-accepted_so own peers oldest (Refuses code) e decided = decided
-accepted_so own peers oldest Waits e decided = decided
+accepted_so : (own : List ℕ) (peers : List (List ℕ)) (m : Meeting) (e : SessionState) → Decides (greeters.Accepts own peers) m e → (e.version ≡ version_in m) × (e.fell_back ≡ false)
+accepted_so own peers (Opens other rest) e decided = decided
+accepted_so own peers (Refuses code) e decided = decided
+accepted_so own peers Waits e decided = decided
 
 pub decided_by_status : (hello : Hello) (roster : List Definition) (up_to_date : Bool) (s : SessionState) (steps : List (Event × List Action)) → Runs (connecting hello roster up_to_date) steps s
     → (s.version ≡ version_in (by_status hello.version (status_of (heard_in steps)) (heard_in steps)))
@@ -208,13 +207,9 @@ pub decided_by_status : (hello : Hello) (roster : List Definition) (up_to_date :
 decided_by_status hello roster up_to_date s steps runs =
     connected_so hello.version (meeting (greeters.Connects hello.version) (heard_in steps)) s (decides_new steps (connecting hello roster up_to_date) s hello _ refl (refl, refl) runs)
 
-pub decided_by_answer : (oldest : Version) (own : List ℕ) (peers : List (List ℕ)) (roster : List Definition) (up_to_date : Bool) (s : SessionState) (steps : List (Event × List Action))
-    → Runs (accepting_from oldest own peers roster up_to_date) steps s
-    → (s.version ≡ version_in (by_answer (answer_from oldest (answer_of own peers (heard_in steps))) (heard_in steps))) × (s.fell_back ≡ false)
-decided_by_answer oldest own peers roster up_to_date s steps runs =
-    accepted_so own peers oldest (meeting (greeters.Accepts own peers oldest) (heard_in steps)) s
-    (decides steps (accepting_from oldest own peers roster up_to_date) s (greeters.Accepts own peers oldest) [] _ refl (none_yet oldest own peers) (refl, refl) runs)
-  where
-    none_yet : (oldest : Version) (own : List ℕ) (peers : List (List ℕ)) → meeting (greeters.Accepts own peers oldest) [] ≡ Waits
-    none_yet versions.V20 own peers = refl
-    none_yet versions.V21 own peers = refl
+pub decided_by_answer : (own : List ℕ) (peers : List (List ℕ)) (roster : List Definition) (up_to_date : Bool) (s : SessionState) (steps : List (Event × List Action))
+    → Runs (accepting own peers roster up_to_date) steps s
+    → (s.version ≡ version_in (by_answer (answer_of own peers (heard_in steps)) (heard_in steps))) × (s.fell_back ≡ false)
+decided_by_answer own peers roster up_to_date s steps runs =
+    accepted_so own peers (meeting (greeters.Accepts own peers) (heard_in steps)) s
+    (decides steps (accepting own peers roster up_to_date) s (greeters.Accepts own peers) [] _ refl refl (refl, refl) runs)

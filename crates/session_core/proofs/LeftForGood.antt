@@ -36,13 +36,13 @@ use Rattle.session_core.specs.declared.phase.Greeter.TheVariants as greeters
 use Rattle.session_core.specs.declared.share.Share.{Share}
 use Rattle.session_core.specs.Phases.{Phase}
 use Rattle.session_core.specs.Phases as phases
-use Rattle.session_core.specs.Shares.{any_out, all_quiet, is_out, out_set, quiet_set, unquieted, may_copy, first_to_copy, through, past, next_table}
+use Rattle.session_core.specs.Shares.{all_quiet, is_out, out_set, quiet_set, unquieted, may_copy, first_to_copy, through, past, next_table}
 use Rattle.session_core.specs.Actions.{sends_control, sends_acks, status_text, reopens}
 use Rattle.session_core.specs.Acks.{ack_of}
-use Rattle.session_core.specs.Courses.{Course, course_fed, teaching_anew, requested, acknowledged, ack_received, said, message_received, AreReceived, ReceivesAll, acks_given, table_to_ask}
-use Rattle.session_core.specs.Sessions.{SessionState, going, Concludes, ReceivesBytes, IsWelcomed, Connects, Accepts, Greets, GoesIn, GoesNew, GoesHello, GoesOpen, Turns, HasNothing, FinishesResync, StartsPendingResync, Settles, answer_from, opening, speaking}
-use Rattle.session_core.specs.Paces.{inferred, is_ahead}
-use Rattle.session_core.specs.Standing.{StandingState, is_reopen, changed, teaches, shared, put_off, finished_if, finishing, begun_resync, Does, task_at, TakesTurn, Writes, answer_of_refusal, Stands, without_tables, leaving, heartbeats, TicksIn, caught_up_in}
+use Rattle.session_core.specs.Courses.{Course, course_fed, is_held, teaching_anew, requested, acknowledged, ack_received, said, message_received, AreReceived, ReceivesAll, acks_given, table_to_ask}
+use Rattle.session_core.specs.Sessions.{SessionState, going, Concludes, ReceivesBytes, first_word, IsWelcomed, Connects, Accepts, Greets, GoesIn, GoesNew, GoesHello, GoesOpen, Turns, HasNothing, FinishesResync, StartsPendingResync, Settles, opening, speaking}
+use Rattle.session_core.specs.Paces.{inferred}
+use Rattle.session_core.specs.Standing.{StandingState, changed, shared, finished_if, finishing, begun_resync, Does, task_at, TakesTurn, Writes, Stands, without_tables, leaving, heartbeats, TicksIn, caught_up_in}
 use Rattle.session_core.specs.StandingRuns.{Happening, At, Tick, CatchUp, Happens, Lasts, acts_of, leaves, was_left}
 use Rattle.session_core.specs.StandingSteps.{is_about}
 use Rattle.session_core.proofs.ShareLemmas.{true_or_false}
@@ -65,7 +65,7 @@ any_cond : {X : Type 0} (b : Bool) (p : X → Bool) (x : X) (ys : List X) → p 
 any_cond true p x ys one others = neither (p x) (list_any p ys) one others
 any_cond false p x ys one others = others
 
-pub any_filter : {X : Type 0} (p q : X → Bool) (xs : List X) → list_any p xs ≡ false → list_any p (filter q xs) ≡ false
+any_filter : {X : Type 0} (p q : X → Bool) (xs : List X) → list_any p xs ≡ false → list_any p (filter q xs) ≡ false
 any_filter p q [] none = refl
 any_filter p q (x ∷ xs) none = any_cond (q x) p x (filter q xs) (or_left (p x) (list_any p xs) none) (any_filter p q xs (or_right (p x) (list_any p xs) none))
 
@@ -190,7 +190,7 @@ past_requested t true c none = (refl, none)
 past_requested t false c none = (concerns_reopens t c.shares ∙ none, lists_unquieted t c.shares ∙ none)
 
 past_said : (t : ℕ) (c : Course) (control : Control) → lists t c.shares ≡ false → IsPast t (said c control).0 (said c control).1.shares
-past_said t c controls.ResyncRequest none = past_requested t (any_out c.shares) c none
+past_said t c controls.ResyncRequest none = past_requested t (is_held c.stays c.shares) c none
 past_said t c controls.ResyncFinished none = (refl, none)
 past_said t c controls.ResyncPartial none = (refl, none)
 past_said t c controls.ResyncConfirmed none = (refl, none)
@@ -214,62 +214,15 @@ past_received t c (taken.Said control) none = past_said t c control none
 past_received t c (taken.Acked table number) none = past_ack t c (ack_of c.intake.roster (taken.Acked table number)) none
 past_received t c (taken.Failed kind) none = (refl, none)
 
-past_all : (t : ℕ) (c e : Course) (ts : List Taken) (acts : List Action) → lists t c.shares ≡ false → AreReceived c ts acts e → concerns t acts ≡ false
-past_all t c e [] acts none (is, here) = ap (concerns t) is
+past_all : (t : ℕ) (c e : Course) (ts : List Taken) (acts : List Action) → lists t c.shares ≡ false → AreReceived c ts acts e → IsPast t acts e.shares
+past_all t c e [] acts none (is, here) = (ap (concerns t) is, ap (λ (x : Course). lists t x.shares) here ∙ none)
 past_all t c e (m ∷ ms) acts none (mid, rest, receives, all, later) =
     let here : lists t mid.shares ≡ false = ap (λ (x : Course). lists t x.shares) receives.2 ∙ none in
     let one = past_received t mid m here in
-    ap (concerns t) all ∙ concerns_append t (message_received mid m).0 rest one.0 (past_all t (message_received mid m).1 e ms rest one.1 later)
+    let then = past_all t (message_received mid m).1 e ms rest one.1 later in
+    (ap (concerns t) all ∙ concerns_append t (message_received mid m).0 rest one.0 then.0, then.1)
 
 -- ---- bytes
-
-past_concluded : (t : ℕ) (s : SessionState) (c mid : Course) (result : Result (Unit {0}) Halt) (first gs given : List Action) (e : SessionState) → lists t c.shares ≡ false → concerns t first ≡ false → ReceivesAll c result gs mid → Concludes s mid result (first ++ gs) given e → concerns t given ≡ false
-past_concluded t s c mid (Ok u) first gs given e none plain (ts, are, waits) (all, ends) =
-    ap (concerns t) all ∙ concerns_append t (first ++ gs) (acks_given mid) (concerns_append t first gs plain (past_all t c mid ts gs none are)) (concerns_acks t (due_acks mid.intake))
-past_concluded t s c mid (Err halts.Failed) first gs given e none plain (ts, at_halt, are, halted) (all, ends) =
-    ap (concerns t) all ∙ concerns_append t (first ++ gs) (actions.Close ∷ []) (concerns_append t first gs plain (past_all t c at_halt ts gs none are)) refl
-past_concluded t s c mid (Err (halts.Fault fault)) first gs given e none plain (ts, at_halt, are, halted) (all, ends) =
-    ap (concerns t) all ∙ concerns_append t (first ++ gs) (actions.Part _ ∷ []) (concerns_append t first gs plain (past_all t c at_halt ts gs none are)) refl
-past_concluded t s c mid (Err halts.Memory) first gs given e none plain receives concludes = absurd concludes
-
-past_receives : (t : ℕ) (s : SessionState) (c : Course) (first given : List Action) (e : SessionState) → lists t c.shares ≡ false → concerns t first ≡ false → ReceivesBytes s c first given e → concerns t given ≡ false
-past_receives t s c first given e none plain (result, gs, mid, receives, concludes) = past_concluded t s c mid result first gs given e none plain receives concludes
-
-past_welcomed : (t : ℕ) (b : Bool) (version : Version) (code : ℕ) (s : SessionState) (c : Course) (rest : List ℕ) (given : List Action) (e : SessionState) → lists t c.shares ≡ false → IsWelcomed b version code s c rest given e → concerns t given ≡ false
-past_welcomed t true version code s c rest given e none receives = past_receives t (speaking version s) (course_fed c rest) (sends_control controls.ResyncRequest ∷ opening version c.shares) given e none (concerns_opening t version c.shares none) receives
-past_welcomed t false version code s c rest given e none (is, ends) = ap (concerns t) is
-
-past_connects : (t : ℕ) (version : Version) (status : Status) (s : SessionState) (bytes : List ℕ) (c : Course) (given : List Action) (e : SessionState) → lists t c.shares ≡ false → Connects version status s bytes c given e → concerns t given ≡ false
-past_connects t version statuses.More s bytes c given e none (is, ends) = ap (concerns t) is
-past_connects t version (statuses.Code code used) s bytes c given e none goes = past_welcomed t _ version code s c _ given e none goes
-past_connects t version (statuses.Other used) s bytes c given e none (is, ends) = ap (concerns t) is
-
-past_accepts : (t : ℕ) (answer : Answer) (s : SessionState) (greeter : Greeter) (bytes : List ℕ) (c : Course) (given : List Action) (e : SessionState) → lists t c.shares ≡ false → Accepts answer s greeter bytes c given e → concerns t given ≡ false
-past_accepts t answers.More s greeter bytes c given e none (is, ends) = ap (concerns t) is
-past_accepts t (answers.Accepted name version used) s greeter bytes c given e none goes = past_receives t (speaking version s) (course_fed c (drop used bytes)) (actions.Send (status_text 200) ∷ opening version c.shares) given e none (concerns_opening t version c.shares none) goes
-past_accepts t (answers.Refused code used) s greeter bytes c given e none (is, ends) = ap (concerns t) is
-
-past_greets : (t : ℕ) (s : SessionState) (greeter : Greeter) (bytes : List ℕ) (c : Course) (given : List Action) (e : SessionState) → lists t c.shares ≡ false → Greets s greeter bytes c given e → concerns t given ≡ false
-past_greets t s (greeters.Connects version) bytes c given e none goes = past_connects t version (status_of bytes) s bytes c given e none goes
-past_greets t s (greeters.Accepts own peers oldest) bytes c given e none goes = past_accepts t (answer_from oldest (answer_of own peers bytes)) s (greeters.Accepts own peers oldest) bytes c given e none goes
-
-past_bytes : (t : ℕ) (phase : Phase) (s : SessionState) (bytes : List ℕ) (given : List Action) (e : SessionState) → lists t (shared phase) ≡ false → GoesIn phase s (events.Bytes bytes) given e → concerns t given ≡ false
-past_bytes t (phases.New hello c) s bytes given e none goes = absurd goes
-past_bytes t (phases.Hello greeter before c) s bytes given e none goes = past_greets t s greeter (before ++ bytes) c given e none goes
-past_bytes t (phases.Open c) s bytes given e none (due, receives) = past_receives t s (course_fed c bytes) [] given e none refl receives
-past_bytes t phases.Ended s bytes given e none goes = absurd goes
-
-past_off : (t : ℕ) (teaching : Bool) (ss : List Share) (phase : Phase) → lists t ss ≡ false → lists t (shared (changed (put_off teaching ss) phase)) ≡ false
-past_off t teaching ss (phases.New hello c) none = none
-past_off t teaching ss (phases.Hello greeter bytes c) none = none
-past_off t teaching ss (phases.Open c) none = none
-past_off t teaching ss phases.Ended none = refl
-
--- ---- other events
-
-abbrev IsNoBytes : Event → Type 0
-IsNoBytes (events.Bytes bytes) = ⊥
-IsNoBytes event = Unit {0}
 
 -- the session after the actions
 abbrev GoesPast : ℕ → List Action → SessionState → Type 0
@@ -277,6 +230,39 @@ GoesPast t acts e = IsPast t acts (shared e.phase)
 
 past_at : (t : ℕ) (acts given : List Action) (e x : SessionState) → acts ≡ given → e ≡ x → IsPast t given (shared x.phase) → GoesPast t acts e
 past_at t acts given e x is ends (one, other) = (ap (concerns t) is ∙ one, ap (λ (y : SessionState). lists t (shared y.phase)) ends ∙ other)
+
+past_concluded : (t : ℕ) (s : SessionState) (c mid : Course) (result : Result (Unit {0}) Halt) (first gs given : List Action) (e : SessionState) → lists t c.shares ≡ false → concerns t first ≡ false → ReceivesAll c result gs mid → Concludes s mid result (first ++ gs) given e → GoesPast t given e
+past_concluded t s c mid (Ok u) first gs given e none plain (ts, are, waits) (all, ends) =
+    let heard = past_all t c mid ts gs none are in
+    past_at t given _ e _ all ends (concerns_append t (first ++ gs) (acks_given mid) (concerns_append t first gs plain heard.0) (concerns_acks t (due_acks mid.intake)), heard.1)
+past_concluded t s c mid (Err halts.Failed) first gs given e none plain (ts, at_halt, are, halted) (all, ends) =
+    past_at t given _ e _ all ends (concerns_append t (first ++ gs) (actions.Close ∷ []) (concerns_append t first gs plain (past_all t c at_halt ts gs none are).0) refl, refl)
+past_concluded t s c mid (Err (halts.Fault fault)) first gs given e none plain (ts, at_halt, are, halted) (all, ends) =
+    past_at t given _ e _ all ends (concerns_append t (first ++ gs) (actions.Part _ ∷ []) (concerns_append t first gs plain (past_all t c at_halt ts gs none are).0) refl, refl)
+past_concluded t s c mid (Err halts.Memory) first gs given e none plain receives concludes = absurd concludes
+
+past_receives : (t : ℕ) (s : SessionState) (c : Course) (first given : List Action) (e : SessionState) → lists t c.shares ≡ false → concerns t first ≡ false → ReceivesBytes s c first given e → GoesPast t given e
+past_receives t s c first given e none plain (result, gs, mid, receives, concludes) = past_concluded t s c mid result first gs given e none plain receives concludes
+
+past_welcomed : (t : ℕ) (b : Bool) (version : Version) (code : ℕ) (s : SessionState) (c : Course) (rest : List ℕ) (given : List Action) (e : SessionState) → lists t c.shares ≡ false → IsWelcomed b version code s c rest given e → GoesPast t given e
+past_welcomed t true version code s c rest given e none receives = past_receives t (speaking version s) (course_fed c rest) (sends_control (first_word c.stays) ∷ opening version c.shares) given e none (concerns_opening t version c.shares none) receives
+past_welcomed t false version code s c rest given e none (is, ends) = past_at t given _ e _ is ends (refl, refl)
+
+past_connects : (t : ℕ) (version : Version) (status : Status) (s : SessionState) (bytes : List ℕ) (c : Course) (given : List Action) (e : SessionState) → lists t c.shares ≡ false → Connects version status s bytes c given e → GoesPast t given e
+past_connects t version statuses.More s bytes c given e none (is, ends) = past_at t given _ e _ is ends (refl, none)
+past_connects t version (statuses.Code code used) s bytes c given e none goes = past_welcomed t _ version code s c _ given e none goes
+past_connects t version (statuses.Other used) s bytes c given e none (is, ends) = past_at t given _ e _ is ends (refl, refl)
+
+past_accepts : (t : ℕ) (answer : Answer) (s : SessionState) (greeter : Greeter) (bytes : List ℕ) (c : Course) (given : List Action) (e : SessionState) → lists t c.shares ≡ false → Accepts answer s greeter bytes c given e → GoesPast t given e
+past_accepts t answers.More s greeter bytes c given e none (is, ends) = past_at t given _ e _ is ends (refl, none)
+past_accepts t (answers.Accepted name version used) s greeter bytes c given e none goes = past_receives t (speaking version s) (course_fed c (drop used bytes)) (actions.Send (status_text 200) ∷ opening version c.shares) given e none (concerns_opening t version c.shares none) goes
+past_accepts t (answers.Refused code used) s greeter bytes c given e none (is, ends) = past_at t given _ e _ is ends (refl, refl)
+
+past_greets : (t : ℕ) (s : SessionState) (greeter : Greeter) (bytes : List ℕ) (c : Course) (given : List Action) (e : SessionState) → lists t c.shares ≡ false → Greets s greeter bytes c given e → GoesPast t given e
+past_greets t s (greeters.Connects version) bytes c given e none goes = past_connects t version (status_of bytes) s bytes c given e none goes
+past_greets t s (greeters.Accepts own peers) bytes c given e none goes = past_accepts t (answer_of own peers bytes) s (greeters.Accepts own peers) bytes c given e none goes
+
+-- ---- events
 
 past_new : (t : ℕ) (s : SessionState) (hello : Hello) (c : Course) (event : Event) (acts : List Action) (e : SessionState) → lists t c.shares ≡ false → GoesNew s hello c event acts e → GoesPast t acts e
 past_new t s hello c events.Opened acts e none (is, ends) = past_at t acts _ e _ is ends (refl, none)
@@ -291,18 +277,18 @@ past_new t s hello c (events.Written known) acts e none goes = absurd goes
 past_new t s hello c (events.Settled table settled) acts e none goes = absurd goes
 past_new t s hello c (events.Refused table) acts e none goes = absurd goes
 
-past_hello : (t : ℕ) (s : SessionState) (greeter : Greeter) (bytes : List ℕ) (c : Course) (event : Event) (acts : List Action) (e : SessionState) → IsNoBytes event → lists t c.shares ≡ false → GoesHello s greeter bytes c event acts e → GoesPast t acts e
-past_hello t s greeter bytes c (events.Bytes piece) acts e other none goes = absurd other
-past_hello t s greeter bytes c events.Turn acts e other none (is, ends) = past_at t acts _ e _ is ends (refl, none)
-past_hello t s greeter bytes c events.End acts e other none (is, ends) = past_at t acts _ e _ is ends (refl, refl)
-past_hello t s greeter bytes c events.ReadFault acts e other none (is, ends) = past_at t acts _ e _ is ends (refl, refl)
-past_hello t s greeter bytes c events.WriteFault acts e other none (is, ends) = past_at t acts _ e _ is ends (refl, refl)
-past_hello t s greeter bytes c events.Opened acts e other none goes = absurd goes
-past_hello t s greeter bytes c (events.Copied table batch) acts e other none goes = absurd goes
-past_hello t s greeter bytes c (events.Nothing table) acts e other none goes = absurd goes
-past_hello t s greeter bytes c (events.Written known) acts e other none goes = absurd goes
-past_hello t s greeter bytes c (events.Settled table settled) acts e other none goes = absurd goes
-past_hello t s greeter bytes c (events.Refused table) acts e other none goes = absurd goes
+past_hello : (t : ℕ) (s : SessionState) (greeter : Greeter) (bytes : List ℕ) (c : Course) (event : Event) (acts : List Action) (e : SessionState) → lists t c.shares ≡ false → GoesHello s greeter bytes c event acts e → GoesPast t acts e
+past_hello t s greeter bytes c (events.Bytes piece) acts e none goes = past_greets t s greeter (bytes ++ piece) c acts e none goes
+past_hello t s greeter bytes c events.Turn acts e none (is, ends) = past_at t acts _ e _ is ends (refl, none)
+past_hello t s greeter bytes c events.End acts e none (is, ends) = past_at t acts _ e _ is ends (refl, refl)
+past_hello t s greeter bytes c events.ReadFault acts e none (is, ends) = past_at t acts _ e _ is ends (refl, refl)
+past_hello t s greeter bytes c events.WriteFault acts e none (is, ends) = past_at t acts _ e _ is ends (refl, refl)
+past_hello t s greeter bytes c events.Opened acts e none goes = absurd goes
+past_hello t s greeter bytes c (events.Copied table batch) acts e none goes = absurd goes
+past_hello t s greeter bytes c (events.Nothing table) acts e none goes = absurd goes
+past_hello t s greeter bytes c (events.Written known) acts e none goes = absurd goes
+past_hello t s greeter bytes c (events.Settled table settled) acts e none goes = absurd goes
+past_hello t s greeter bytes c (events.Refused table) acts e none goes = absurd goes
 
 past_turns : (t : ℕ) (asked : Option ℕ) (s : SessionState) (c : Course) (acts : List Action) (e : SessionState) → lists t c.shares ≡ false → (asked ≡ Some t → ⊥) → Turns asked s c acts e → GoesPast t acts e
 past_turns t None s c acts e none not_it (is, ends) = past_at t acts _ e _ is ends (refl, none)
@@ -326,7 +312,7 @@ past_starts t false s c acts e none (is, ends) = past_at t acts _ e _ is ends (r
 
 past_settles : (t : ℕ) (settled : Settled) (s : SessionState) (c : Course) (table : ℕ) (acts : List Action) (e : SessionState) → lists t c.shares ≡ false → Settles settled s c table acts e → GoesPast t acts e
 past_settles t settles.All s c table acts e none starts =
-    past_starts t (c.waits && not (any_out (out_set table false c.shares))) s (record c { shares = out_set table false c.shares }) acts e (lists_out_set t table false c.shares ∙ none) starts
+    past_starts t _ s (record c { shares = out_set table false c.shares }) acts e (lists_out_set t table false c.shares ∙ none) starts
 past_settles t settles.Some s c table acts e none (is, ends) = past_at t acts _ e _ is ends (refl, none)
 past_settles t settles.Older s c table acts e none (is, ends) = past_at t acts _ e _ is ends (refl, none)
 
@@ -334,28 +320,28 @@ past_settles t settles.Older s c table acts e none (is, ends) = past_at t acts _
 answered_shares : (t : ℕ) (c mid : Course) → mid ≡ record c { due = mid.due } → lists t c.shares ≡ false → lists t mid.shares ≡ false
 answered_shares t c mid is none = ap (λ (x : Course). lists t x.shares) is ∙ none
 
-past_open : (t : ℕ) (s : SessionState) (c : Course) (event : Event) (acts : List Action) (e : SessionState) → IsNoBytes event → lists t c.shares ≡ false → GoesOpen s c event acts e → GoesPast t acts e
-past_open t s c events.Turn acts e other none (due, turns) =
-    past_turns t (table_to_ask c) s c acts e none (not_asked c.waits (next_table c.teaching c.asked c.shares) t (not_next c.teaching c.asked t c.shares none)) turns
-past_open t s c (events.Bytes bytes) acts e other none goes = absurd other
-past_open t s c (events.Copied table batch) acts e other none (mid, answered, (is, ends)) =
+past_open : (t : ℕ) (s : SessionState) (c : Course) (event : Event) (acts : List Action) (e : SessionState) → lists t c.shares ≡ false → GoesOpen s c event acts e → GoesPast t acts e
+past_open t s c events.Turn acts e none (due, turns) =
+    past_turns t (table_to_ask c) s c acts e none (not_asked (c.waits && not c.stays) (next_table c.teaching c.asked c.shares) t (not_next c.teaching c.asked t c.shares none)) turns
+past_open t s c (events.Bytes bytes) acts e none (due, receives) = past_receives t s (course_fed c bytes) [] acts e none refl receives
+past_open t s c (events.Copied table batch) acts e none (mid, answered, (is, ends)) =
     past_at t acts _ e _ is ends (refl, lists_out_set t table true mid.shares ∙ answered_shares t c mid answered.1 none)
-past_open t s c (events.Nothing table) acts e other none (mid, answered, nothing) =
+past_open t s c (events.Nothing table) acts e none (mid, answered, nothing) =
     past_nothing t mid.teaching s mid table acts e (answered_shares t c mid answered.1 none) nothing
-past_open t s c (events.Written known) acts e other none (mid, answered, is, ends) = past_at t acts _ e _ is ends (refl, answered_shares t c mid answered.1 none)
-past_open t s c (events.Settled table settled) acts e other none (mid, answered, settles) =
+past_open t s c (events.Written known) acts e none (mid, answered, is, ends) = past_at t acts _ e _ is ends (refl, answered_shares t c mid answered.1 none)
+past_open t s c (events.Settled table settled) acts e none (mid, answered, settles) =
     past_settles t settled s mid table acts e (answered_shares t c mid answered.1 none) settles
-past_open t s c (events.Refused table) acts e other none (mid, answered, is, ends) = past_at t acts _ e _ is ends (refl, refl)
-past_open t s c events.End acts e other none (is, ends) = past_at t acts _ e _ is ends (refl, refl)
-past_open t s c events.ReadFault acts e other none (is, ends) = past_at t acts _ e _ is ends (refl, refl)
-past_open t s c events.WriteFault acts e other none (is, ends) = past_at t acts _ e _ is ends (refl, refl)
-past_open t s c events.Opened acts e other none goes = absurd goes
+past_open t s c (events.Refused table) acts e none (mid, answered, is, ends) = past_at t acts _ e _ is ends (refl, refl)
+past_open t s c events.End acts e none (is, ends) = past_at t acts _ e _ is ends (refl, refl)
+past_open t s c events.ReadFault acts e none (is, ends) = past_at t acts _ e _ is ends (refl, refl)
+past_open t s c events.WriteFault acts e none (is, ends) = past_at t acts _ e _ is ends (refl, refl)
+past_open t s c events.Opened acts e none goes = absurd goes
 
-past_in : (t : ℕ) (phase : Phase) (s : SessionState) (event : Event) (acts : List Action) (e : SessionState) → IsNoBytes event → lists t (shared phase) ≡ false → GoesIn phase s event acts e → GoesPast t acts e
-past_in t (phases.New hello c) s event acts e other none goes = past_new t s hello c event acts e none goes
-past_in t (phases.Hello greeter bytes c) s event acts e other none goes = past_hello t s greeter bytes c event acts e other none goes
-past_in t (phases.Open c) s event acts e other none goes = past_open t s c event acts e other none goes
-past_in t phases.Ended s event acts e other none goes = absurd goes
+past_in : (t : ℕ) (phase : Phase) (s : SessionState) (event : Event) (acts : List Action) (e : SessionState) → lists t (shared phase) ≡ false → GoesIn phase s event acts e → GoesPast t acts e
+past_in t (phases.New hello c) s event acts e none goes = past_new t s hello c event acts e none goes
+past_in t (phases.Hello greeter bytes c) s event acts e none goes = past_hello t s greeter bytes c event acts e none goes
+past_in t (phases.Open c) s event acts e none goes = past_open t s c event acts e none goes
+past_in t phases.Ended s event acts e none goes = absurd goes
 
 -- ---- each step
 
@@ -376,45 +362,38 @@ past_still : (t : ℕ) (s e : StandingState) (acts : List Action) → acts ≡ [
 past_still t s e acts is same none = (ap (concerns t) is, ap (λ (x : StandingState). lists t (shared x.session.phase)) same ∙ none)
 
 past_does : (t : ℕ) (task : Task) (s e : StandingState) (c : Course) (now : ℕ) (acts : List Action) → s.session.phase ≡ phases.Open c → lists t (shared s.session.phase) ≡ false → Does task s c now acts e → GoesPast t acts e.session
-past_does t tasks.Copy s e c now acts stands none (goes, paces) = past_in t s.session.phase s.session events.Turn acts e.session tt none goes
+past_does t tasks.Copy s e c now acts stands none (goes, paces) = past_in t s.session.phase s.session events.Turn acts e.session none goes
 past_does t tasks.Rest s e c now acts stands none (due, is, same) = past_still t s e acts is same none
 past_does t tasks.Begin s e c now acts stands none (due, is, session, paces) =
     past_at t acts _ e.session _ is session (past_begun t c (subst (λ (p : Phase). lists t (shared p) ≡ false) stands none))
 
 past_turn : (t : ℕ) (phase : Phase) (s e : StandingState) (now : ℕ) (acts : List Action) → s.session.phase ≡ phase → lists t (shared s.session.phase) ≡ false → TakesTurn phase s now acts e → GoesPast t acts e.session
 past_turn t (phases.Open c) s e now acts stands none does = past_does t (task_at now s.pace c) s e c now acts stands none does
-past_turn t (phases.New hello c) s e now acts stands none (goes, paces) = past_in t s.session.phase s.session events.Turn acts e.session tt none goes
-past_turn t (phases.Hello greeter bytes c) s e now acts stands none (goes, paces) = past_in t s.session.phase s.session events.Turn acts e.session tt none goes
-past_turn t phases.Ended s e now acts stands none (goes, paces) = past_in t s.session.phase s.session events.Turn acts e.session tt none goes
+past_turn t (phases.New hello c) s e now acts stands none (goes, paces) = past_in t s.session.phase s.session events.Turn acts e.session none goes
+past_turn t (phases.Hello greeter bytes c) s e now acts stands none (goes, paces) = past_in t s.session.phase s.session events.Turn acts e.session none goes
+past_turn t phases.Ended s e now acts stands none (goes, paces) = past_in t s.session.phase s.session events.Turn acts e.session none goes
 
 past_writes : (t : ℕ) (phase : Phase) (s e : StandingState) (now : ℕ) (known : KnownState) (acts : List Action) → lists t (shared phase) ≡ false → Writes phase s now known acts e → GoesPast t acts e.session
 past_writes t (phases.Open c) s e now known acts none (goes, is, paces) =
     let one = past_ack t c (inferred c.asked s.pace.progress) none in
-    let then = past_open t (going s.session (ack_received c (inferred c.asked s.pace.progress)).1) (ack_received c (inferred c.asked s.pace.progress)).1 (events.Written known) [] e.session tt one.1 goes in
+    let then = past_open t (going s.session (ack_received c (inferred c.asked s.pace.progress)).1) (ack_received c (inferred c.asked s.pace.progress)).1 (events.Written known) [] e.session one.1 goes in
     (ap (concerns t) is ∙ one.0, then.1)
 past_writes t (phases.New hello c) s e now known acts none writes = absurd writes
 past_writes t (phases.Hello greeter bytes c) s e now known acts none writes = absurd writes
 past_writes t phases.Ended s e now known acts none writes = absurd writes
 
-no_bytes : (b : Bool) (table : ℕ) → IsNoBytes (answer_of_refusal b table)
-no_bytes true table = tt
-no_bytes false table = tt
-
 past_stands : (t : ℕ) (event : Event) (s e : StandingState) (now : ℕ) (acts : List Action) → lists t (shared s.session.phase) ≡ false → Stands s now event acts e → GoesPast t acts e.session
-past_stands t (events.Bytes bytes) s e now acts none (given, mid, goes, is, session, paces) = (
-  ap (concerns t) is ∙ any_filter (is_about t) (λ (action : Action). not (is_reopen action)) given (past_bytes t s.session.phase s.session bytes given mid none goes),
-  ap (λ (y : SessionState). lists t (shared y.phase)) session ∙ past_off t (teaches s.session.phase) (shared s.session.phase) mid.phase none,
-)
+past_stands t (events.Bytes bytes) s e now acts none (goes, paces) = past_in t s.session.phase s.session (events.Bytes bytes) acts e.session none goes
 past_stands t events.Turn s e now acts none turns = past_turn t s.session.phase s e now acts refl none turns
 past_stands t (events.Written known) s e now acts none writes = past_writes t s.session.phase s e now known acts none writes
-past_stands t (events.Refused table) s e now acts none (goes, paces) = past_in t s.session.phase s.session _ acts e.session (no_bytes (is_ahead table s.pace.progress) table) none goes
-past_stands t (events.Copied table batch) s e now acts none (goes, paces) = past_in t s.session.phase s.session (events.Copied table batch) acts e.session tt none goes
-past_stands t events.Opened s e now acts none (goes, paces) = past_in t s.session.phase s.session events.Opened acts e.session tt none goes
-past_stands t events.End s e now acts none (goes, paces) = past_in t s.session.phase s.session events.End acts e.session tt none goes
-past_stands t events.ReadFault s e now acts none (goes, paces) = past_in t s.session.phase s.session events.ReadFault acts e.session tt none goes
-past_stands t events.WriteFault s e now acts none (goes, paces) = past_in t s.session.phase s.session events.WriteFault acts e.session tt none goes
-past_stands t (events.Nothing table) s e now acts none (goes, paces) = past_in t s.session.phase s.session (events.Nothing table) acts e.session tt none goes
-past_stands t (events.Settled table settled) s e now acts none (goes, paces) = past_in t s.session.phase s.session (events.Settled table settled) acts e.session tt none goes
+past_stands t (events.Refused table) s e now acts none (goes, paces) = past_in t s.session.phase s.session _ acts e.session none goes
+past_stands t (events.Copied table batch) s e now acts none (goes, paces) = past_in t s.session.phase s.session (events.Copied table batch) acts e.session none goes
+past_stands t events.Opened s e now acts none (goes, paces) = past_in t s.session.phase s.session events.Opened acts e.session none goes
+past_stands t events.End s e now acts none (goes, paces) = past_in t s.session.phase s.session events.End acts e.session none goes
+past_stands t events.ReadFault s e now acts none (goes, paces) = past_in t s.session.phase s.session events.ReadFault acts e.session none goes
+past_stands t events.WriteFault s e now acts none (goes, paces) = past_in t s.session.phase s.session events.WriteFault acts e.session none goes
+past_stands t (events.Nothing table) s e now acts none (goes, paces) = past_in t s.session.phase s.session (events.Nothing table) acts e.session none goes
+past_stands t (events.Settled table settled) s e now acts none (goes, paces) = past_in t s.session.phase s.session (events.Settled table settled) acts e.session none goes
 
 past_leaving : (t : ℕ) (left : List ℕ) (c : Course) → lists t c.shares ≡ false → IsPast t (leaving left c).0 (leaving left c).1.shares
 past_leaving t [] c none = (refl, none)

@@ -1,9 +1,7 @@
-mod BytesRefused
 mod ReceivingLemmas
 mod EndLemmas
 mod ShareLemmas
 mod RunLemmas
-mod BegunToStay
 mod StepLemmas
 mod RunLaws
 mod AskedLaws
@@ -15,6 +13,9 @@ mod ReceivingGoesOn
 mod BytesStay
 mod SomeStep
 mod SameHoweverFed
+mod TickGives
+mod StandingTimes
+mod BegunToStay
 mod StandingTicks
 mod StandingAcks
 mod StandingWork
@@ -22,13 +23,11 @@ mod SilentTicks
 mod StandingEnds
 mod StandingFinish
 mod NamesKept
-mod TickGives
-mod StandingTimes
 mod LeftForGood
 mod AsksFree
 mod StaysOut
 mod ReopensApart
-mod OnlyTurnsCopy
+pub mod OnlyTurnsCopy
 mod StandingOnce
 mod SomeStand
 mod TakenHoweverCut

@@ -19,8 +19,8 @@ use Rattle.session_core.specs.declared.due.Due.TheVariants as dues
 use Rattle.session_core.specs.declared.share.Share.{Share}
 use Rattle.session_core.specs.Actions.{reopens, sends_control}
 use Rattle.session_core.specs.Acks.{ack_of}
-use Rattle.session_core.specs.Shares.{any_out, is_out}
-use Rattle.session_core.specs.Courses.{Course, AreReceived, acknowledged, ack_received, message_received, requested}
+use Rattle.session_core.specs.Shares.{is_out}
+use Rattle.session_core.specs.Courses.{Course, is_held, AreReceived, acknowledged, ack_received, message_received, requested}
 use Rattle.session_core.specs.Paces.{ack_in}
 use Rattle.session_core.specs.Standing.{is_reopen, without_reopens}
 use Rattle.session_core.specs.Cutting.{answers_message, without_acks}
@@ -33,7 +33,7 @@ use Rattle.session_core.proofs.AnswersInOrder.{Fits, Sharing, answered_in, fits_
 
 -- the course `c` with another intake, with this sharing, and with these answers due
 abbrev pub course_of : Course → Taking → Sharing → List Due → Course
-course_of c x a due = record { intake = x; up_to_date = c.up_to_date; shares = a.shares; asked = c.asked; teaching = cond a.anew true c.teaching; waits = a.waits; due = due }
+course_of c x a due = record { stays = a.stays; intake = x; up_to_date = c.up_to_date; shares = a.shares; asked = c.asked; teaching = cond a.anew true c.teaching; waits = a.waits; due = due }
 
 abbrev pub due_of : ℕ × ℕ → Due
 due_of ack = dues.Ack ack.0
@@ -195,7 +195,7 @@ requested_moves settles false c x due over acks a k fits =
 
 said_moves : (settles : ℕ → ℕ → Bool) (control : Control) (c : Course) (x : Taking) (due : List Due) (over : List ℕ) (acks : List (ℕ × ℕ)) (a k : Sharing) → Fits settles over acks a k
     → Moves settles c x a.reopened due over acks (message_received (course_of c x a due) (taken.Said control)).0 (message_received (course_of c x a due) (taken.Said control)).1 (control_left requested_in k control) (control_told control)
-said_moves settles controls.ResyncRequest c x due over acks a k fits = requested_moves settles (any_out a.shares) c x due over acks a (requested_in k) (fits_requested settles over acks a k fits)
+said_moves settles controls.ResyncRequest c x due over acks a k fits = requested_moves settles (is_held a.stays a.shares) c x due over acks a (requested_in k) (fits_requested settles over acks a k fits)
 said_moves settles controls.ResyncFinished c x due over acks a k fits = moves_still settles c x a.reopened due over acks (sends_control controls.ResyncConfirmed ∷ []) a k (sends_control controls.ResyncConfirmed ∷ []) refl refl refl (sym (or_false a.reopened)) fits
 said_moves settles controls.ResyncPartial c x due over acks a k fits = moves_still settles c x a.reopened due over acks (sends_control controls.ResyncConfirmed ∷ []) a k (sends_control controls.ResyncConfirmed ∷ []) refl refl refl (sym (or_false a.reopened)) fits
 said_moves settles controls.ResyncConfirmed c x due over acks a k fits = moves_still settles c x a.reopened due over acks [] a k [] refl refl refl (sym (or_false a.reopened)) fits

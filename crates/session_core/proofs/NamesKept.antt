@@ -41,7 +41,7 @@ copies_begun table c =
     ∙ rw ((plain_reopens table c.shares).1, copies_end table (d.teaching && all_quiet d.shares) d) refl
 
 -- a turn that copies awaits no names
-awaits_none : (requested out opened awaits : Bool) → cond requested (cond out tasks.Rest tasks.Begin) (cond (opened && not awaits) tasks.Copy tasks.Rest) ≡ tasks.Copy → awaits ≡ false
+awaits_none : (begins out opened awaits : Bool) → cond begins (cond out tasks.Rest tasks.Begin) (cond (opened && not awaits) tasks.Copy tasks.Rest) ≡ tasks.Copy → awaits ≡ false
 awaits_none true true opened awaits is = cc
 awaits_none true false opened awaits is = cc
 awaits_none false out true true is = cc
@@ -56,7 +56,7 @@ alone_does tasks.Copy s e c now acts table stands is does copied =
     let goes = subst (λ (p : Phase). GoesIn p s.session events.Turn acts e.session) stands does.0 in
     let asks : table_to_ask c ≡ Some table = copied_is_asked (table_to_ask c) s.session e.session c acts table goes.1 copied in
     none_awaited s c table asks
-    (awaits_none (s.pace.requested && is_rested s.pace.reopened now) (any_out c.shares) (c.teaching || has_passed push_time s.pace.opened now) (awaits_names (table_to_ask c) s.pace.progress c.shares) is)
+    (awaits_none (c.waits && is_rested s.pace.reopened now) (any_out c.shares) (c.teaching || has_passed push_time s.pace.opened now) (awaits_names (table_to_ask c) s.pace.progress c.shares) is)
 alone_does tasks.Rest s e c now acts table stands is (due, none, same) copied = absurd (false≢true (sym (ap (copies table) none) ∙ copied))
 alone_does tasks.Begin s e c now acts table stands is (due, begun, session, pace) copied =
     absurd (false≢true (sym (ap (copies table) begun ∙ copies_begun table c) ∙ copied))

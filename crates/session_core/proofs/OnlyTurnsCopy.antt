@@ -1,12 +1,11 @@
 -- Only a turn copies.
-use Rattle.std.proofs.Common.{◌≡◌, ℕ, Bool, true, false, not, List, [], ◌∷◌, ◌++◌, Option, Some, None, Result, Ok, Err, refl, sym, ap, ◌∙◌}
+use Rattle.std.proofs.Common.{◌≡◌, ℕ, Bool, true, false, List, [], ◌∷◌, ◌++◌, Option, Some, None, Result, Ok, Err, refl, sym, ap, ◌∙◌}
 use Rattle.std.specs.Prelude.{drop}
 use Rattle.std.proofs.lemmas.Bool.{false≢true}
 use Rattle.table_types.specs.declared.copies.Settled.{Settled}
 use Rattle.table_types.specs.declared.copies.Settled.TheVariants as settles
 use Rattle.table_types.specs.declared.version.Version.{Version}
 use Rattle.known_state.specs.Known.{KnownState}
-use Rattle.peers_msg.specs.declared.control.Control.TheVariants as controls
 use Rattle.peers_hello.specs.declared.hello.Hello.{Hello}
 use Rattle.peers_hello.specs.declared.hello.Answer.{Answer}
 use Rattle.peers_hello.specs.declared.hello.Answer.TheVariants as answers
@@ -27,12 +26,11 @@ use Rattle.session_core.specs.Phases as phases
 use Rattle.session_core.specs.Shares.{is_out}
 use Rattle.session_core.specs.Actions.{sends_control, status_text}
 use Rattle.session_core.specs.Courses.{Course, course_fed, acknowledged, ack_received, ReceivesAll, acks_given}
-use Rattle.session_core.specs.Sessions.{SessionState, Concludes, ReceivesBytes, IsWelcomed, Connects, Accepts, Greets, GoesIn, GoesNew, GoesHello, GoesOpen, HasNothing, FinishesResync, StartsPendingResync, Settles, answer_from, opening, speaking}
-use Rattle.session_core.specs.Runs.{is_copy_of, copies}
+use Rattle.session_core.specs.Sessions.{SessionState, Concludes, ReceivesBytes, IsWelcomed, Connects, Accepts, Greets, GoesIn, GoesNew, GoesHello, GoesOpen, HasNothing, FinishesResync, StartsPendingResync, Settles, first_word, opening, speaking}
+use Rattle.session_core.specs.Runs.{copies}
 use Rattle.session_core.specs.Paces.{inferred, is_ahead}
-use Rattle.session_core.specs.Standing.{StandingState, is_reopen, Writes, answer_of_refusal, Stands}
-use Rattle.session_core.proofs.LeftForGood.{any_filter}
-use Rattle.session_core.proofs.EndLemmas.{is_plain, plain_append, plain_all, plain_acks, plain_ready, plain_status, plain_reopens}
+use Rattle.session_core.specs.Standing.{StandingState, Writes, answer_of_refusal, Stands}
+use Rattle.session_core.proofs.EndLemmas.{is_plain, plain_append, plain_all, plain_acks, plain_ready, plain_status, plain_reopens, plain_word}
 
 -- ---- bytes
 
@@ -49,7 +47,7 @@ copied_receives : (t : ℕ) (s : SessionState) (c : Course) (first given : List 
 copied_receives t s c first given e plain (result, gs, mid, receives, concludes) = copied_concluded t s c mid result first gs given e plain receives concludes
 
 copied_welcomed : (t : ℕ) (b : Bool) (version : Version) (code : ℕ) (s : SessionState) (c : Course) (rest : List ℕ) (given : List Action) (e : SessionState) → IsWelcomed b version code s c rest given e → copies t given ≡ false
-copied_welcomed t true version code s c rest given e receives = copied_receives t (speaking version s) (course_fed c rest) (sends_control controls.ResyncRequest ∷ opening version c.shares) given e (plain_ready t (sends_control controls.ResyncRequest) version c.shares (refl, refl)) receives
+copied_welcomed t true version code s c rest given e receives = copied_receives t (speaking version s) (course_fed c rest) (sends_control (first_word c.stays) ∷ opening version c.shares) given e (plain_ready t (sends_control (first_word c.stays)) version c.shares (plain_word t c.stays)) receives
 copied_welcomed t false version code s c rest given e (is, ends) = ap (copies t) is
 
 copied_connects : (t : ℕ) (version : Version) (status : Status) (s : SessionState) (bytes : List ℕ) (c : Course) (given : List Action) (e : SessionState) → Connects version status s bytes c given e → copies t given ≡ false
@@ -64,9 +62,9 @@ copied_accepts t (answers.Refused code used) s greeter bytes c given e (is, ends
 
 copied_greets : (t : ℕ) (s : SessionState) (greeter : Greeter) (bytes : List ℕ) (c : Course) (given : List Action) (e : SessionState) → Greets s greeter bytes c given e → copies t given ≡ false
 copied_greets t s (greeters.Connects version) bytes c given e goes = copied_connects t version (status_of bytes) s bytes c given e goes
-copied_greets t s (greeters.Accepts own peers oldest) bytes c given e goes = copied_accepts t (answer_from oldest (answer_of own peers bytes)) s (greeters.Accepts own peers oldest) bytes c given e goes
+copied_greets t s (greeters.Accepts own peers) bytes c given e goes = copied_accepts t (answer_of own peers bytes) s (greeters.Accepts own peers) bytes c given e goes
 
-copied_bytes : (t : ℕ) (phase : Phase) (s : SessionState) (bytes : List ℕ) (given : List Action) (e : SessionState) → GoesIn phase s (events.Bytes bytes) given e → copies t given ≡ false
+pub copied_bytes : (t : ℕ) (phase : Phase) (s : SessionState) (bytes : List ℕ) (given : List Action) (e : SessionState) → GoesIn phase s (events.Bytes bytes) given e → copies t given ≡ false
 copied_bytes t (phases.New hello c) s bytes given e goes = absurd goes
 copied_bytes t (phases.Hello greeter before c) s bytes given e goes = copied_greets t s greeter (before ++ bytes) c given e goes
 copied_bytes t (phases.Open c) s bytes given e (due, receives) = copied_receives t s (course_fed c bytes) [] given e (refl, refl) receives
@@ -166,8 +164,7 @@ clash event t acts copied none = absurd (false≢true (sym none ∙ copied))
 
 pub only_turns_copy : (s e : StandingState) (now : ℕ) (event : Event) (acts : List Action) (table : ℕ) → Stands s now event acts e → copies table acts ≡ true → event ≡ events.Turn
 only_turns_copy s e now events.Turn acts table stands copied = refl
-only_turns_copy s e now (events.Bytes bytes) acts table (given, mid, goes, is, session, paces) copied =
-    clash (events.Bytes bytes) table acts copied (ap (copies table) is ∙ any_filter (is_copy_of table) (λ (action : Action). not (is_reopen action)) given (copied_bytes table s.session.phase s.session bytes given mid goes))
+only_turns_copy s e now (events.Bytes bytes) acts table (goes, paces) copied = clash (events.Bytes bytes) table acts copied (copied_bytes table s.session.phase s.session bytes acts e.session goes)
 only_turns_copy s e now (events.Written known) acts table writes copied = clash (events.Written known) table acts copied (copied_writes table s.session.phase s e now known acts writes)
 only_turns_copy s e now (events.Refused other) acts table (goes, paces) copied =
     clash (events.Refused other) table acts copied (copied_in table s.session.phase s.session _ acts e.session (other_refusal (is_ahead other s.pace.progress) other) goes)

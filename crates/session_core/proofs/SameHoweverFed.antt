@@ -27,8 +27,8 @@ use Rattle.session_core.specs.Phases.{Phase}
 use Rattle.session_core.specs.Phases as phases
 use Rattle.session_core.specs.Actions.{confirms, is_confirmation}
 use Rattle.session_core.specs.Acks.{ack_of}
-use Rattle.session_core.specs.Courses.{Course, course_fed, Receives, AreReceived, message_received, requested, ack_received, acknowledged, said, acks_given, acks_sent}
-use Rattle.session_core.specs.Shares.{any_out, is_out}
+use Rattle.session_core.specs.Courses.{Course, course_fed, is_held, Receives, AreReceived, message_received, requested, ack_received, acknowledged, said, acks_given, acks_sent}
+use Rattle.session_core.specs.Shares.{is_out}
 use Rattle.session_core.specs.Sessions.{SessionState, Goes, GoesIn, GoesOpen, ReceivesBytes, Concludes, confirmed_by, ended, going, kind_of_fault}
 use Rattle.session_core.specs.Runs.{HoldsBytes}
 use Rattle.session_core.specs.Cutting.{AreFed, IsFedOut, answers_message, without_acks}
@@ -52,7 +52,7 @@ acknowledged_lift f true c table number = refl
 acknowledged_lift f false c table number = refl
 
 said_lift : (f : Taking → Taking) (c : Course) (control : Control) → said (lift f c) control ≡ ((said c control).0, lift f (said c control).1)
-said_lift f c controls.ResyncRequest = requested_lift f (any_out c.shares) c
+said_lift f c controls.ResyncRequest = requested_lift f (is_held c.stays c.shares) c
 said_lift f c controls.ResyncFinished = refl
 said_lift f c controls.ResyncPartial = refl
 said_lift f c controls.ResyncConfirmed = refl

@@ -1,5 +1,5 @@
 -- Every event that may come to a session that stays has a step, and so does every tick.
-use Rattle.std.proofs.Common.{◌≡◌, ℕ, Bool, true, false, ◌||◌, List, [], ◌∷◌, ◌++◌, Option, Some, None, refl, sym, ◌∙◌, subst, inl, inr, arith}
+use Rattle.std.proofs.Common.{◌≡◌, ℕ, Bool, true, false, ◌||◌, List, [], ◌∷◌, ◌++◌, Option, Some, None, refl, sym, ◌∙◌, subst, arith}
 use Rattle.std.specs.List.{list_any, AllByRecursion}
 use Rattle.std.proofs.lemmas.Bool.{false≢true}
 use Rattle.table_types.specs.Tables.{Definition}
@@ -13,18 +13,17 @@ use Rattle.session_core.specs.declared.event.Event.{Event}
 use Rattle.session_core.specs.declared.event.Event.TheVariants as events
 use Rattle.session_core.specs.declared.pace.Task.{Task}
 use Rattle.session_core.specs.declared.pace.Task.TheVariants as tasks
-use Rattle.session_core.specs.declared.share.Share.{Share}
 use Rattle.session_core.specs.Phases.{Phase}
 use Rattle.session_core.specs.Phases as phases
 use Rattle.session_core.specs.Shares.{is_out}
 use Rattle.session_core.specs.Courses.{Course, teaching_anew, acknowledged, ack_received, is_due, none_due}
-use Rattle.session_core.specs.Sessions.{SessionState, GoesOpen, in_phase, going, ended, is_asked}
-use Rattle.session_core.specs.Runs.{IsBegun, HoldsBytes, BringsBytes}
+use Rattle.session_core.specs.Sessions.{SessionState, GoesOpen, going, ended, is_asked}
+use Rattle.session_core.specs.Runs.{HoldsBytes, BringsBytes}
 use Rattle.session_core.specs.Paces.{has_passed, heartbeat_time, silence_time, renewed, inferred, is_ahead, noted, copied_in, last_number, tables_to_leave}
-use Rattle.session_core.specs.Standing.{StandingState, is_send, paced, HandsOn, without_reopens, changed, teaches, shared, is_requested, put_off, finished_if, finishing, begun_resync, Does, task_at, TakesTurn, Writes, answer_of_refusal, Stands, without_tables, leaving, heartbeats, forgetting, any_left, TicksIn, Ticks, caught_up_in, speaking_v21}
+use Rattle.session_core.specs.Standing.{StandingState, is_send, paced, HandsOn, changed, finished_if, finishing, begun_resync, Does, task_at, TakesTurn, Writes, answer_of_refusal, Stands, without_tables, leaving, heartbeats, forgetting, any_left, TicksIn, Ticks, caught_up_in}
 use Rattle.session_core.specs.StandingRuns.{Happening, At, Tick, CatchUp, Happens, Lasts, BeginsToStay}
 use Rattle.session_core.specs.StandingSteps.{HearsBytes}
-use Rattle.session_core.proofs.BegunToStay.{begins_v21}
+use Rattle.session_core.proofs.BegunToStay.{begun_in}
 use Rattle.session_core.proofs.BytesStay.{step_holds}
 use Rattle.session_core.proofs.SomeStep.{some_step}
 use Rattle.session_core.proofs.StandingOnce.{asked_refusal}
@@ -33,12 +32,6 @@ use Rattle.session_core.proofs.StandingOnce.{asked_refusal}
 
 holds_at : (e x : SessionState) → e ≡ x → HoldsBytes x.phase → HoldsBytes e.phase
 holds_at e x is holds = subst (λ (y : SessionState). HoldsBytes y.phase) (sym is) holds
-
-holds_off : (teaching : Bool) (ss : List Share) (phase : Phase) → HoldsBytes phase → HoldsBytes (changed (put_off teaching ss) phase)
-holds_off teaching ss (phases.New hello c) holds = holds
-holds_off teaching ss (phases.Hello greeter bytes c) holds = holds
-holds_off teaching ss (phases.Open c) holds = holds
-holds_off teaching ss phases.Ended holds = tt
 
 holds_finished : (b : Bool) (c : Course) → IsBytes c.intake.unread → IsBytes (finished_if b c).1.intake.unread
 holds_finished true c holds = holds
@@ -78,8 +71,7 @@ brings_refusal true table = tt
 brings_refusal false table = tt
 
 holds_stands : (event : Event) (s e : StandingState) (now : ℕ) (acts : List Action) → HoldsBytes s.session.phase → BringsBytes event → Stands s now event acts e → HoldsBytes e.session.phase
-holds_stands (events.Bytes bytes) s e now acts holds brings (given, mid, goes, is, session, paces) =
-    holds_at e.session _ session (holds_off (teaches s.session.phase) (shared s.session.phase) mid.phase (step_holds s.session mid (events.Bytes bytes) given holds brings goes))
+holds_stands (events.Bytes bytes) s e now acts holds brings (goes, paces) = step_holds s.session e.session (events.Bytes bytes) acts holds brings goes
 holds_stands events.Turn s e now acts holds brings turns = holds_turn s.session.phase s e now acts refl holds turns
 holds_stands (events.Written known) s e now acts holds brings writes = holds_writes s.session.phase s e now known acts holds writes
 holds_stands (events.Refused table) s e now acts holds brings (goes, paces) =
@@ -121,9 +113,8 @@ holds_lasts : (steps : List Happening) (s e : StandingState) → HoldsBytes s.se
 holds_lasts [] s e holds hears here = holds_still s e here holds
 holds_lasts (one ∷ steps) s e holds hears (mid, happens, lasts) = holds_lasts steps mid e (holds_happens one s mid holds hears.0 happens) hears.1 lasts
 
-begun_holds : (roster : List Definition) (s : SessionState) → IsBegun roster s → HoldsBytes s.phase
-begun_holds roster s (inl (hello, up_to_date, is)) = holds_at s _ is (λ i. omega arith)
-begun_holds roster s (inr (oldest, own, peers, up_to_date, is)) = holds_at s _ is ((λ i. omega arith), (λ i. omega arith))
+begun_holds : (roster : List Definition) (begun : StandingState) → BeginsToStay roster begun → HoldsBytes begun.session.phase
+begun_holds roster begun begins = begun_in HoldsBytes roster begun ((λ hello up_to_date i. omega arith), (λ own peers up_to_date. ((λ i. omega arith), (λ i. omega arith)))) begins
 
 -- ---- some step
 
@@ -144,7 +135,7 @@ some_does tasks.Copy s c now stands holds asked = some_hands events.Turn s now h
 some_does tasks.Rest s c now stands holds asked = ([], s, (none_is_due c.due (subst (λ (p : Phase). is_asked p events.Turn ≡ true) stands asked), refl, refl))
 some_does tasks.Begin s c now stands holds asked = (
   (begun_resync c).0,
-  record { session = going s.session (begun_resync c).1; pace = record (paced s.session.phase now events.Turn (begun_resync c).0 s.pace) { reopened = Some now; requested = false } },
+  record { session = going s.session (begun_resync c).1; pace = record (paced s.session.phase now events.Turn (begun_resync c).0 s.pace) { reopened = Some now } },
   (none_is_due c.due (subst (λ (p : Phase). is_asked p events.Turn ≡ true) stands asked), refl, refl, refl),
 )
 
@@ -184,18 +175,8 @@ some_writes phases.Ended s now known holds asked = absurd (false≢true asked)
 
 some_event : (event : Event) (s : StandingState) (now : ℕ) → HoldsBytes s.session.phase → BringsBytes event → is_asked s.session.phase event ≡ true → HasStep s now event
 some_event (events.Bytes bytes) s now holds brings asked =
-    let one = some_step s.session (events.Bytes bytes) holds brings asked in (
-      without_reopens one.0,
-      record {
-        session = in_phase one.1 (changed (put_off (teaches s.session.phase) (shared s.session.phase)) one.1.phase);
-        pace =
-            record (paced s.session.phase now (events.Bytes bytes) one.0 s.pace) {
-              requested = s.pace.requested || is_requested (teaches s.session.phase) one.0 one.1.phase;
-              progress = noted one.0 s.pace.progress;
-            };
-      },
-      (one.0, one.1, one.2, refl, refl, refl),
-    )
+    let one = some_step s.session (events.Bytes bytes) holds brings asked in
+    (one.0, record { session = one.1; pace = record (paced s.session.phase now (events.Bytes bytes) one.0 s.pace) { progress = noted one.0 s.pace.progress } }, (one.2, refl))
 some_event events.Turn s now holds brings asked = some_turn s.session.phase s now refl holds asked
 some_event (events.Written known) s now holds brings asked = some_writes s.session.phase s now known holds asked
 some_event (events.Refused table) s now holds brings asked =
@@ -215,9 +196,7 @@ some_event (events.Nothing table) s now holds brings asked = some_hands (events.
 some_event (events.Settled table settled) s now holds brings asked = some_hands (events.Settled table settled) s now holds brings asked
 
 pub some_stands : (roster : List Definition) (begun s : StandingState) (steps : List Happening) (now : ℕ) (event : Event) → BeginsToStay roster begun → Lasts begun steps s → AllByRecursion HearsBytes steps → BringsBytes event → is_asked s.session.phase event ≡ true → (acts : List Action) × (e : StandingState) × Stands s now event acts e
-some_stands roster begun s steps now event (first, since, begins, is) lasts hears brings asked =
-    let start : HoldsBytes begun.session.phase = subst (λ (x : StandingState). HoldsBytes x.session.phase) (sym is) (begun_holds roster (speaking_v21 first) (begins_v21 roster first begins)) in
-    some_event event s now (holds_lasts steps begun s start hears lasts) brings asked
+some_stands roster begun s steps now event begins lasts hears brings asked = some_event event s now (holds_lasts steps begun s (begun_holds roster begun begins) hears lasts) brings asked
 
 -- ---- some tick
 

@@ -8,7 +8,6 @@ use Rattle.table_types.specs.declared.copies.Settled.{Settled}
 use Rattle.table_types.specs.declared.copies.Settled.TheVariants as settles
 use Rattle.table_types.specs.declared.version.Version.{Version}
 use Rattle.peers_msg.specs.Integers.{IsBytes}
-use Rattle.peers_msg.specs.declared.control.Control.TheVariants as controls
 use Rattle.peers_msg.specs.declared.control.ErrorKind.TheVariants as kinds
 use Rattle.peers_hello.specs.declared.hello.Hello.{Hello}
 use Rattle.peers_hello.specs.declared.hello.Answer.{Answer}
@@ -31,7 +30,7 @@ use Rattle.session_core.specs.Actions.{reopens, sends_control, status_text}
 use Rattle.session_core.specs.Courses.{Course, Answered, course_fed, finished, is_due, is_same_due, kind_of, none_due, table_to_ask, teaching_anew}
 use Rattle.session_core.specs.Shares.{out_set}
 use Rattle.session_core.specs.Runs.{BringsBytes, HoldsBytes, IsBegun, Runs}
-use Rattle.session_core.specs.Sessions.{SessionState, Accepts, Connects, FinishesResync, Goes, GoesHello, GoesIn, GoesNew, GoesOpen, Greets, HasNothing, IsWelcomed, Settles, StartsPendingResync, Turns, ended, going, in_phase, is_asked, is_asked_hello, is_asked_new, is_asked_open, answer_from, falling_back, falls_back, opening, speaking}
+use Rattle.session_core.specs.Sessions.{SessionState, Accepts, Connects, FinishesResync, Goes, GoesHello, GoesIn, GoesNew, GoesOpen, Greets, HasNothing, IsWelcomed, Settles, StartsPendingResync, Turns, ended, going, in_phase, is_asked, is_asked_hello, is_asked_new, is_asked_open, first_word, falling_back, falls_back, opening, speaking}
 use Rattle.session_core.proofs.IntakeGoesOn.{append_good}
 use Rattle.session_core.proofs.ReceivingGoesOn.{received_some}
 use Rattle.session_core.proofs.BytesStay.{fed_good, run_holds}
@@ -54,7 +53,7 @@ some_new s hello c (events.Refused table) is = absurd (false≢true is)
 -- ---- Hello
 
 some_welcome : (welcome : Bool) (version : Version) (code : ℕ) (s : SessionState) (c : Course) (rest : List ℕ) → IsBytes (course_fed c rest).intake.unread → (acts : List Action) × (e : SessionState) × IsWelcomed welcome version code s c rest acts e
-some_welcome true version code s c rest good = received_some (speaking version s) (course_fed c rest) (sends_control controls.ResyncRequest ∷ opening version c.shares) good
+some_welcome true version code s c rest good = received_some (speaking version s) (course_fed c rest) (sends_control (first_word c.stays) ∷ opening version c.shares) good
 some_welcome false version code s c rest good = (actions.Close ∷ [], ended (falling_back (falls_back version code) s), (refl, refl))
 
 some_connect : (version : Version) (status : Status) (s : SessionState) (bytes : List ℕ) (c : Course) → IsBytes bytes → IsBytes c.intake.unread → (acts : List Action) × (e : SessionState) × Connects version status s bytes c acts e
@@ -69,7 +68,7 @@ some_accept (answers.Refused code used) s greeter bytes c good unread = (actions
 
 some_greeting : (greeter : Greeter) (s : SessionState) (bytes : List ℕ) (c : Course) → IsBytes bytes → IsBytes c.intake.unread → (acts : List Action) × (e : SessionState) × Greets s greeter bytes c acts e
 some_greeting (greeters.Connects version) s bytes c good unread = some_connect version (status_of bytes) s bytes c good unread
-some_greeting (greeters.Accepts own peers oldest) s bytes c good unread = some_accept (answer_from oldest (answer_of own peers bytes)) s (greeters.Accepts own peers oldest) bytes c good unread
+some_greeting (greeters.Accepts own peers) s bytes c good unread = some_accept (answer_of own peers bytes) s (greeters.Accepts own peers) bytes c good unread
 
 some_hello : (s : SessionState) (greeter : Greeter) (bytes : List ℕ) (c : Course) (event : Event) → IsBytes bytes × IsBytes c.intake.unread → BringsBytes event → is_asked_hello event ≡ true
     → (acts : List Action) × (e : SessionState) × GoesHello s greeter bytes c event acts e
@@ -114,7 +113,7 @@ nothing_due (d ∷ ds) is = absurd (false≢true is)
 
 some_turn : (table : Option ℕ) (s : SessionState) (c : Course) → (acts : List Action) × (e : SessionState) × Turns table s c acts e
 some_turn None s c = ([], in_phase s (phases.Open c), (refl, refl))
-some_turn (Some table) s c = (actions.Copy table (kind_of c.teaching) ∷ [], going s (record c { asked = Some table; due = dues.Copy table ∷ [] }), (refl, refl))
+some_turn (Some table) s c = (actions.Copy table (kind_of c.stays c.teaching) ∷ [], going s (record c { asked = Some table; due = dues.Copy table ∷ [] }), (refl, refl))
 
 some_finish : (quiet : Bool) (s : SessionState) (c : Course) → (acts : List Action) × (e : SessionState) × FinishesResync quiet s c acts e
 some_finish true s c = (sends_control (finished c.up_to_date) ∷ [], going s (record c { teaching = false }), (refl, refl))

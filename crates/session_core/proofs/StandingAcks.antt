@@ -1,5 +1,5 @@
 -- An acknowledgement that a session passes on was received.
-use Rattle.std.proofs.Common.{◌≡◌, ℕ, Bool, true, false, ◌&&◌, ◌||◌, ◌==◌, List, [], ◌∷◌, ◌++◌, Some, None, Option, refl, sym, ap, ◌∙◌, subst, inl, inr, append_assoc, cond}
+use Rattle.std.proofs.Common.{◌≡◌, ℕ, Bool, true, false, ◌||◌, ◌==◌, List, [], ◌∷◌, ◌++◌, Some, None, Option, refl, sym, ap, ◌∙◌, subst, inl, inr, append_assoc, cond}
 use Rattle.std.specs.Prelude.{nat_le}
 use Rattle.std.specs.List.{list_any, AllByRecursion}
 use Rattle.std.proofs.lemmas.Bool.{cases_eq, eq-eqb, ne_eqb, false≢true}
@@ -25,7 +25,7 @@ use Rattle.session_core.specs.Actions.{reopens}
 use Rattle.session_core.specs.Courses.{Course, table_to_ask, ack_received, acknowledged, teaching_anew}
 use Rattle.session_core.specs.Sessions.{SessionState, GoesIn, GoesNew, GoesHello, GoesOpen, Turns, HasNothing, FinishesResync, StartsPendingResync, Settles}
 use Rattle.session_core.specs.Paces.{Pace, progress_of, with_copy, copied_in, last_number, with_ack, acknowledged_in, ack_in, noted_one, noted, is_number, inferred, is_ahead}
-use Rattle.session_core.specs.Standing.{StandingState, without_reopens, finished_if, finishing, begun_resync, Does, task_at, TakesTurn, Writes, answer_of_refusal, Stands, TicksIn}
+use Rattle.session_core.specs.Standing.{StandingState, finished_if, finishing, begun_resync, Does, task_at, TakesTurn, Writes, answer_of_refusal, Stands, TicksIn}
 use Rattle.session_core.specs.StandingRuns.{Happening, At, Tick, CatchUp, Happens, Lasts, BeginsToStay, is_ack_of, acknowledges, brings_ack, was_acknowledged}
 
 -- ---- what was noted was received
@@ -101,21 +101,6 @@ real_noted : (steps : List Happening) (acts : List Action) (ps : List Progress) 
 real_noted steps [] ps brought real = real
 real_noted steps (action ∷ acts) ps brought real =
     real_noted steps acts (noted_one (ack_in action) ps) (brought_rest steps action acts brought) (real_one steps action acts ps brought real)
-
--- the reopenings that are left to a turn acknowledge nothing
-or_same : (a b c : Bool) → b ≡ c → (a || b) ≡ (a || c)
-or_same a b c same = ap (λ (x : Bool). a || x) same
-
-acks_without : (table number : ℕ) (acts : List Action) → acknowledges table number (without_reopens acts) ≡ acknowledges table number acts
-acks_without table number [] = refl
-acks_without table number (actions.Ack other n ∷ acts) = or_same (other == table && n == number) _ _ (acks_without table number acts)
-acks_without table number (actions.Send bytes ∷ acts) = acks_without table number acts
-acks_without table number (actions.Learn u ∷ acts) = acks_without table number acts
-acks_without table number (actions.Reopen other ∷ acts) = acks_without table number acts
-acks_without table number (actions.Copy other kind ∷ acts) = acks_without table number acts
-acks_without table number (actions.Teach batch ∷ acts) = acks_without table number acts
-acks_without table number (actions.Part kind ∷ acts) = acks_without table number acts
-acks_without table number (actions.Close ∷ acts) = acks_without table number acts
 
 -- the bytes of the last step bring what its actions acknowledge
 last_brings : (steps : List Happening) (now : ℕ) (bytes : List ℕ) (acts : List Action) (table number : ℕ) → acknowledges table number acts ≡ true → was_acknowledged table number (steps ++ (At now (events.Bytes bytes) acts ∷ [])) ≡ true
@@ -339,11 +324,10 @@ writes_real (phases.Hello greeter bytes c) steps s e now known acts real writes 
 writes_real phases.Ended steps s e now known acts real writes = absurd writes
 
 stands_real : (event : Event) (steps : List Happening) (s e : StandingState) (now : ℕ) (acts : List Action) → AreReal steps s.pace.progress → Stands s now event acts e → AreReal (steps ++ (At now event acts ∷ [])) e.pace.progress
-stands_real (events.Bytes bytes) steps s e now acts real (given, mid, goes, acted, session, pace) =
+stands_real (events.Bytes bytes) steps s e now acts real (goes, pace) =
     let steps_then : List Happening = steps ++ (At now (events.Bytes bytes) acts ∷ []) in
-    let brings : AreBrought steps_then given = λ table number is. last_brings steps now bytes acts table number (ap (acknowledges table number) acted ∙ (acks_without table number given ∙ is)) in
     subst (AreReal steps_then) (sym (ap (λ (p : Pace). p.progress) pace))
-    (real_noted steps_then given s.pace.progress brings (real_more steps (At now (events.Bytes bytes) acts) s.pace.progress real))
+    (real_noted steps_then acts s.pace.progress (last_brings steps now bytes acts) (real_more steps (At now (events.Bytes bytes) acts) s.pace.progress real))
 stands_real events.Turn steps s e now acts real turns = turn_real s.session.phase steps s e now acts real turns
 stands_real (events.Copied table batch) steps s e now acts real (goes, pace) =
     let steps_then : List Happening = steps ++ (At now (events.Copied table batch) acts ∷ []) in

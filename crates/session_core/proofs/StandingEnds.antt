@@ -6,10 +6,10 @@ use Rattle.std.proofs.lemmas.Bool.{false≢true}
 use Rattle.std.proofs.lemmas.List.{append-nil}
 use Rattle.std.proofs.lemmas.List.Folds.{list_all-append}
 use Rattle.table_types.specs.Tables.{Definition}
+use Rattle.table_types.specs.declared.copies.CopyKind.TheVariants as kinds
 use Rattle.table_types.specs.declared.copies.Settled.{Settled}
 use Rattle.table_types.specs.declared.copies.Settled.TheVariants as settles
 use Rattle.table_types.specs.declared.version.Version.{Version}
-use Rattle.peers_msg.specs.declared.control.Control.TheVariants as controls
 use Rattle.peers_hello.specs.declared.hello.Hello.{Hello}
 use Rattle.peers_hello.specs.declared.hello.Answer.{Answer}
 use Rattle.peers_hello.specs.declared.hello.Answer.TheVariants as answers
@@ -36,154 +36,43 @@ use Rattle.session_core.specs.Phases as phases
 use Rattle.session_core.specs.Shares.{any_out, all_quiet, is_out, quiet_set, unquieted}
 use Rattle.session_core.specs.Actions.{sends_control, status_text, reopens}
 use Rattle.session_core.specs.Courses.{Course, course_fed, teaching_anew, acknowledged, ack_received, ReceivesAll, acks_given, table_to_ask, none_due}
-use Rattle.session_core.specs.Sessions.{SessionState, is_asked, Concludes, ReceivesBytes, IsWelcomed, Connects, Accepts, Greets, GoesIn, GoesNew, GoesHello, GoesOpen, Turns, HasNothing, FinishesResync, StartsPendingResync, Settles, answer_from, opening, speaking}
-use Rattle.session_core.specs.Runs.{is_end, ends_resync, copies, reopened, IsLeft, HasNothingLeft, HasNothingOut, IsBegun}
+use Rattle.session_core.specs.Sessions.{SessionState, is_asked, Concludes, ReceivesBytes, first_word, IsWelcomed, Connects, Accepts, Greets, GoesIn, GoesNew, GoesHello, GoesOpen, Turns, HasNothing, FinishesResync, StartsPendingResync, Settles, opening, speaking}
+use Rattle.session_core.specs.Runs.{ends_resync, IsLeft, HasNothingLeft, HasNothingOut}
 use Rattle.session_core.specs.Paces.{inferred, is_ahead}
-use Rattle.session_core.specs.Standing.{StandingState, without_reopens, changed, teaches, shared, put_off, finished_if, begun_resync, Does, task_at, TakesTurn, Writes, answer_of_refusal, Stands, without_tables, leaving, heartbeats, TicksIn, caught_up_in, speaking_v21}
+use Rattle.session_core.specs.Standing.{StandingState, changed, finished_if, begun_resync, Does, task_at, TakesTurn, Writes, answer_of_refusal, Stands, without_tables, leaving, heartbeats, TicksIn, caught_up_in}
 use Rattle.session_core.specs.StandingRuns.{Happening, At, Tick, CatchUp, Happens, Lasts, BeginsToStay, acts_of, handed, leaves, was_left}
-use Rattle.session_core.proofs.BegunToStay.{begins_v21}
+use Rattle.session_core.proofs.BegunToStay.{begun_in}
 use Rattle.session_core.proofs.ShareLemmas.{shares_in, ids_of, never, none_out, each_quiet, shares_begin}
-use Rattle.session_core.proofs.EndLemmas.{is_plain, plain_append, plain_all, plain_acks, plain_ready, plain_status, plain_reopens}
-use Rattle.session_core.proofs.RunLemmas.{AreFlags, no_copies, IsDueSound, IsSound, IsCalm, IsFresh, IsKeptIn, due_sound, due_rest, calm_sound, fresh_calm, flags_more, calm_more, anew_flags, calm_all_received}
+use Rattle.session_core.proofs.EndLemmas.{is_plain, plain_append, plain_all, plain_acks, plain_ready, plain_status, plain_reopens, plain_word}
+use Rattle.session_core.proofs.RunLemmas.{AreFlags, no_copies, IsDueSound, IsSound, IsCalm, IsKeptIn, due_sound, due_rest, calm_sound, flags_more, calm_more, anew_flags}
 use Rattle.session_core.proofs.StepLemmas.{with_step, goes_kept, quieted}
-
--- ---- actions without the reopenings
-
-copies_without : (id : ℕ) (acts : List Action) → copies id (without_reopens acts) ≡ copies id acts
-copies_without id [] = refl
-copies_without id (actions.Ack table n ∷ acts) = copies_without id acts
-copies_without id (actions.Send bytes ∷ acts) = copies_without id acts
-copies_without id (actions.Learn u ∷ acts) = copies_without id acts
-copies_without id (actions.Reopen table ∷ acts) = copies_without id acts
-copies_without id (actions.Copy table kind ∷ acts) = ap (λ (b : Bool). (table == id) || b) (copies_without id acts)
-copies_without id (actions.Teach batch ∷ acts) = copies_without id acts
-copies_without id (actions.Part kind ∷ acts) = copies_without id acts
-copies_without id (actions.Close ∷ acts) = copies_without id acts
-
-reopened_without : (id : ℕ) (acts : List Action) → reopened id (without_reopens acts) ≡ false
-reopened_without id [] = refl
-reopened_without id (actions.Ack table n ∷ acts) = reopened_without id acts
-reopened_without id (actions.Send bytes ∷ acts) = reopened_without id acts
-reopened_without id (actions.Learn u ∷ acts) = reopened_without id acts
-reopened_without id (actions.Reopen table ∷ acts) = reopened_without id acts
-reopened_without id (actions.Copy table kind ∷ acts) = reopened_without id acts
-reopened_without id (actions.Teach batch ∷ acts) = reopened_without id acts
-reopened_without id (actions.Part kind ∷ acts) = reopened_without id acts
-reopened_without id (actions.Close ∷ acts) = reopened_without id acts
-
-pub ends_without : (acts : List Action) → ends_resync (without_reopens acts) ≡ ends_resync acts
-ends_without [] = refl
-ends_without (actions.Ack table n ∷ acts) = ends_without acts
-ends_without (actions.Send bytes ∷ acts) = ap (λ (b : Bool). is_end (actions.Send bytes) || b) (ends_without acts)
-ends_without (actions.Learn u ∷ acts) = ends_without acts
-ends_without (actions.Reopen table ∷ acts) = ends_without acts
-ends_without (actions.Copy table kind ∷ acts) = ends_without acts
-ends_without (actions.Teach batch ∷ acts) = ends_without acts
-ends_without (actions.Part kind ∷ acts) = ends_without acts
-ends_without (actions.Close ∷ acts) = ends_without acts
-
--- actions that end no resync
-no_end : {X : Type 0} (acts given : List Action) → acts ≡ given → ends_resync given ≡ false → ends_resync acts ≡ true → X
-no_end acts given is plain ends = absurd (false≢true (sym plain ∙ (sym (ap ends_resync is) ∙ ends)))
-
--- ---- bytes
-
--- the phase after the bytes, in which no resync begins
-abbrev pub AtRest : List ℕ → List (Event × List Action) → Bool → List Share → SessionState → Type 0
-AtRest ids steps teaching shares e = IsKeptIn ids steps (changed (put_off teaching shares) e.phase)
-
-rest_at : (ids : List ℕ) (steps : List (Event × List Action)) (teaching : Bool) (shares : List Share) (e x : SessionState) → e ≡ x → AtRest ids steps teaching shares x → AtRest ids steps teaching shares e
-rest_at ids steps teaching shares e x is kept = subst (AtRest ids steps teaching shares) (sym is) kept
-
-rest_concluded : (ids : List ℕ) (steps : List (Event × List Action)) (s : SessionState) (c mid : Course) (result : Result (Unit {0}) Halt) (event : Event) (first gs given acts : List Action) (e : SessionState) → IsCalm ids steps c → ((id : ℕ) → is_plain id first) → acts ≡ without_reopens given → ReceivesAll c result gs mid → Concludes s mid result (first ++ gs) given e → AtRest ids (with_step steps event acts) c.teaching c.shares e
-rest_concluded ids steps s c mid (Ok u) event first gs given acts e (out, quiet, flags, none) plain is (ts, are, waits) (all, ends) =
-    let after = calm_all_received ids steps c mid ts gs are (out, quiet, flags, none) in
-    let no_copy : (id : ℕ) → copies id acts ≡ false = λ id.
-    ap (copies id) is ∙ (copies_without id given ∙ (ap (copies id) all ∙ (plain_append id (first ++ gs) (acks_given mid) (plain_append id first gs (plain id) (plain_all id c mid ts gs are)) (plain_acks id mid.intake)).1)) in
-    let left : (id : ℕ) → IsLeft id acts = λ id. (no_copy id, ap (reopened id) is ∙ reopened_without id given) in
-    rest_at ids (with_step steps event acts) c.teaching c.shares e _ ends (
-      out,
-      quiet,
-      flags_more ids steps c.teaching c.shares out quiet event acts (λ _ id _. left id) flags,
-      due_sound (with_step steps event acts) c.teaching out quiet mid.due after.3,
-    )
-rest_concluded ids steps s c mid (Err halts.Failed) event first gs given acts e calm plain is receives (all, ends) = rest_at ids (with_step steps event acts) c.teaching c.shares e _ ends tt
-rest_concluded ids steps s c mid (Err (halts.Fault fault)) event first gs given acts e calm plain is receives (all, ends) = rest_at ids (with_step steps event acts) c.teaching c.shares e _ ends tt
-rest_concluded ids steps s c mid (Err halts.Memory) event first gs given acts e calm plain is receives concludes = absurd concludes
-
--- the same, and no resync ends
-abbrev pub IsAttended : List ℕ → List (Event × List Action) → Bool → List Share → Event → List Action → List Action → SessionState → Type 0
-IsAttended ids steps teaching shares event given acts e = AtRest ids (with_step steps event acts) teaching shares e × (ends_resync given ≡ false)
-
-plain_concluded : (s : SessionState) (c mid : Course) (result : Result (Unit {0}) Halt) (first gs given : List Action) (e : SessionState) → is_plain 0 first → ReceivesAll c result gs mid → Concludes s mid result (first ++ gs) given e → ends_resync given ≡ false
-plain_concluded s c mid (Ok u) first gs given e plain (ts, are, waits) (all, ends) =
-    ap ends_resync all ∙ (plain_append 0 (first ++ gs) (acks_given mid) (plain_append 0 first gs plain (plain_all 0 c mid ts gs are)) (plain_acks 0 mid.intake)).0
-plain_concluded s c mid (Err halts.Failed) first gs given e plain (ts, at_halt, are, halted) (all, ends) =
-    ap ends_resync all ∙ (plain_append 0 (first ++ gs) (actions.Close ∷ []) (plain_append 0 first gs plain (plain_all 0 c at_halt ts gs are)) (refl, refl)).0
-plain_concluded s c mid (Err (halts.Fault fault)) first gs given e plain (ts, at_halt, are, halted) (all, ends) =
-    ap ends_resync all ∙ (plain_append 0 (first ++ gs) (actions.Part _ ∷ []) (plain_append 0 first gs plain (plain_all 0 c at_halt ts gs are)) (refl, refl)).0
-plain_concluded s c mid (Err halts.Memory) first gs given e plain receives concludes = absurd concludes
-
-attended : (ids : List ℕ) (steps : List (Event × List Action)) (s : SessionState) (c : Course) (event : Event) (first given acts : List Action) (e : SessionState) → IsCalm ids steps c → ((id : ℕ) → is_plain id first) → acts ≡ without_reopens given → ReceivesBytes s c first given e → IsAttended ids steps c.teaching c.shares event given acts e
-attended ids steps s c event first given acts e calm plain is (result, gs, mid, receives, concludes) =
-    (rest_concluded ids steps s c mid result event first gs given acts e calm plain is receives concludes, plain_concluded s c mid result first gs given e (plain 0) receives concludes)
-
-attended_welcomed : (ids : List ℕ) (steps : List (Event × List Action)) (b : Bool) (version : Version) (code : ℕ) (s : SessionState) (c : Course) (rest : List ℕ) (event : Event) (given acts : List Action) (e : SessionState) → IsFresh ids c → acts ≡ without_reopens given → IsWelcomed b version code s c rest given e → IsAttended ids steps c.teaching c.shares event given acts e
-attended_welcomed ids steps true version code s c rest event given acts e fresh is receives = attended ids steps (speaking version s) (course_fed c rest) event (sends_control controls.ResyncRequest ∷ opening version c.shares) given acts e (fresh_calm ids steps c fresh) (λ id. plain_ready id (sends_control controls.ResyncRequest) version c.shares (refl, refl)) is receives
-attended_welcomed ids steps false version code s c rest event given acts e fresh is (all, ends) = (rest_at ids (with_step steps event acts) c.teaching c.shares e _ ends tt, ap ends_resync all)
-
--- a course that begins is fresh also when put off
-fresh_off : (ids : List ℕ) (c : Course) → IsFresh ids c → IsFresh ids (put_off c.teaching c.shares c)
-fresh_off ids c fresh = fresh
-
-attended_connects : (ids : List ℕ) (steps : List (Event × List Action)) (version : Version) (status : Status) (s : SessionState) (bytes : List ℕ) (c : Course) (event : Event) (given acts : List Action) (e : SessionState) → IsFresh ids c → acts ≡ without_reopens given → Connects version status s bytes c given e → IsAttended ids steps c.teaching c.shares event given acts e
-attended_connects ids steps version statuses.More s bytes c event given acts e fresh is (all, ends) = (rest_at ids (with_step steps event acts) c.teaching c.shares e _ ends (fresh_off ids c fresh), ap ends_resync all)
-attended_connects ids steps version (statuses.Code code used) s bytes c event given acts e fresh is goes = attended_welcomed ids steps _ version code s c _ event given acts e fresh is goes
-attended_connects ids steps version (statuses.Other used) s bytes c event given acts e fresh is (all, ends) = (rest_at ids (with_step steps event acts) c.teaching c.shares e _ ends tt, ap ends_resync all)
-
-attended_accepts : (ids : List ℕ) (steps : List (Event × List Action)) (answer : Answer) (s : SessionState) (greeter : Greeter) (bytes : List ℕ) (c : Course) (event : Event) (given acts : List Action) (e : SessionState) → IsFresh ids c → acts ≡ without_reopens given → Accepts answer s greeter bytes c given e → IsAttended ids steps c.teaching c.shares event given acts e
-attended_accepts ids steps answers.More s greeter bytes c event given acts e fresh is (all, ends) = (rest_at ids (with_step steps event acts) c.teaching c.shares e _ ends (fresh_off ids c fresh), ap ends_resync all)
-attended_accepts ids steps (answers.Accepted name version used) s greeter bytes c event given acts e fresh is goes = attended ids steps (speaking version s) (course_fed c (drop used bytes)) event (actions.Send (status_text 200) ∷ opening version c.shares) given acts e (fresh_calm ids steps c fresh) (λ id. plain_ready id (actions.Send (status_text 200)) version c.shares (plain_status id 200)) is goes
-attended_accepts ids steps (answers.Refused code used) s greeter bytes c event given acts e fresh is (all, ends) =
-    (rest_at ids (with_step steps event acts) c.teaching c.shares e _ ends tt, ap ends_resync all ∙ (plain_append 0 (actions.Send (status_text code) ∷ []) (actions.Close ∷ []) (plain_status 0 code) (refl, refl)).0)
-
-attended_greets : (ids : List ℕ) (steps : List (Event × List Action)) (s : SessionState) (greeter : Greeter) (bytes : List ℕ) (c : Course) (event : Event) (given acts : List Action) (e : SessionState) → IsFresh ids c → acts ≡ without_reopens given → Greets s greeter bytes c given e → IsAttended ids steps c.teaching c.shares event given acts e
-attended_greets ids steps s (greeters.Connects version) bytes c event given acts e fresh is goes = attended_connects ids steps version (status_of bytes) s bytes c event given acts e fresh is goes
-attended_greets ids steps s (greeters.Accepts own peers oldest) bytes c event given acts e fresh is goes = attended_accepts ids steps (answer_from oldest (answer_of own peers bytes)) s (greeters.Accepts own peers oldest) bytes c event given acts e fresh is goes
-
-pub attended_in : (ids : List ℕ) (steps : List (Event × List Action)) (phase : Phase) (s : SessionState) (bytes : List ℕ) (given acts : List Action) (e : SessionState) → IsKeptIn ids steps phase → acts ≡ without_reopens given → GoesIn phase s (events.Bytes bytes) given e → IsAttended ids steps (teaches phase) (shared phase) (events.Bytes bytes) given acts e
-attended_in ids steps (phases.New hello c) s bytes given acts e kept is goes = absurd goes
-attended_in ids steps (phases.Hello greeter before c) s bytes given acts e kept is goes = attended_greets ids steps s greeter (before ++ bytes) c (events.Bytes bytes) given acts e kept is goes
-attended_in ids steps (phases.Open c) s bytes given acts e (out, quiet, flags, sound) is (due, receives) =
-    attended ids steps s (course_fed c bytes) (events.Bytes bytes) [] given acts e (out, quiet, flags, rw due refl) (λ id. (refl, refl)) is receives
-attended_in ids steps phases.Ended s bytes given acts e kept is goes = absurd goes
 
 -- ---- answers
 
-kept_at : (ids : List ℕ) (steps : List (Event × List Action)) (e : SessionState) (phase : Phase) → e.phase ≡ phase → IsKeptIn ids steps phase → IsKeptIn ids steps e.phase
-kept_at ids steps e phase is kept = subst (IsKeptIn ids steps) (sym is) kept
+kept_at : (ids : List ℕ) (steps : List (Event × List Action)) (e : SessionState) (phase : Phase) → e.phase ≡ phase → IsKeptIn true ids steps phase → IsKeptIn true ids steps e.phase
+kept_at ids steps e phase is kept = subst (IsKeptIn true ids steps) (sym is) kept
 
 -- an answer that asks for neither a copy nor a reopening
-answered_kept : (ids : List ℕ) (steps : List (Event × List Action)) (c mid : Course) (d : Due) (event : Event) (acts : List Action) (e : SessionState) → IsSound ids steps c → c.due ≡ d ∷ mid.due → mid ≡ record c { due = mid.due } → ((id : ℕ) → IsLeft id acts) → e.phase ≡ phases.Open mid → IsKeptIn ids (with_step steps event acts) e.phase
+answered_kept : (ids : List ℕ) (steps : List (Event × List Action)) (c mid : Course) (d : Due) (event : Event) (acts : List Action) (e : SessionState) → IsSound true ids steps c → c.due ≡ d ∷ mid.due → mid ≡ record c { due = mid.due } → ((id : ℕ) → IsLeft id acts) → e.phase ≡ phases.Open mid → IsKeptIn true ids (with_step steps event acts) e.phase
 answered_kept ids steps c mid d event acts e (out, quiet, flags, sound) due is leaves stands =
-    let none : no_copies mid.due ≡ true = due_rest steps c.teaching out quiet d mid.due (subst (IsDueSound steps c.teaching out quiet) due sound) in
+    let none : no_copies mid.due ≡ true = due_rest true steps c.teaching out quiet d mid.due (subst (IsDueSound true steps c.teaching out quiet) due sound) in
     kept_at ids (with_step steps event acts) e (phases.Open (record c { due = mid.due })) (stands ∙ ap phases.Open is)
-    (out, quiet, flags_more ids steps c.teaching c.shares out quiet event acts (λ _ id _. leaves id) flags, due_sound (with_step steps event acts) c.teaching out quiet mid.due none)
+    (out, quiet, flags_more true ids steps c out quiet event acts (λ _ id _. leaves id) flags, due_sound true (with_step steps event acts) c.teaching out quiet mid.due none)
 
 no_copies_more : (due : List Due) (table : ℕ) → no_copies due ≡ true → no_copies (due ++ (dues.Ack table ∷ [])) ≡ true
 no_copies_more due table none = list_all-append _ due (dues.Ack table ∷ []) ∙ rw none refl
 
-sound_more : (steps : List (Event × List Action)) (teaching : Bool) (out quiet : ℕ → Bool) (due : List Due) (table : ℕ) → IsDueSound steps teaching out quiet due → IsDueSound steps teaching out quiet (due ++ (dues.Ack table ∷ []))
+sound_more : (steps : List (Event × List Action)) (teaching : Bool) (out quiet : ℕ → Bool) (due : List Due) (table : ℕ) → IsDueSound true steps teaching out quiet due → IsDueSound true steps teaching out quiet (due ++ (dues.Ack table ∷ []))
 sound_more steps teaching out quiet [] table sound = refl
 sound_more steps teaching out quiet (dues.Copy id ∷ rest) table sound = (no_copies_more rest table sound.0, sound.1, sound.2, sound.3)
 sound_more steps teaching out quiet (dues.Teach ∷ rest) table sound = no_copies_more rest table sound
 sound_more steps teaching out quiet (dues.Ack id ∷ rest) table sound = no_copies_more rest table sound
 
-sound_passed : (ids : List ℕ) (steps : List (Event × List Action)) (b : Bool) (c : Course) (table number : ℕ) → IsSound ids steps c → IsSound ids steps (acknowledged b c table number).1
+sound_passed : (ids : List ℕ) (steps : List (Event × List Action)) (b : Bool) (c : Course) (table number : ℕ) → IsSound true ids steps c → IsSound true ids steps (acknowledged b c table number).1
 sound_passed ids steps true c table number (out, quiet, flags, sound) = (out, quiet, flags, sound_more steps c.teaching out quiet c.due table sound)
 sound_passed ids steps false c table number sound = sound
 
-sound_ack : (ids : List ℕ) (steps : List (Event × List Action)) (c : Course) (ack : Option (ℕ × ℕ)) → IsSound ids steps c → IsSound ids steps (ack_received c ack).1
+sound_ack : (ids : List ℕ) (steps : List (Event × List Action)) (c : Course) (ack : Option (ℕ × ℕ)) → IsSound true ids steps c → IsSound true ids steps (ack_received c ack).1
 sound_ack ids steps c (Some (table, number)) sound = sound_passed ids steps (is_out table c.shares) c table number sound
 sound_ack ids steps c None sound = sound
 
@@ -203,7 +92,7 @@ pub end_ack : (c : Course) (ack : Option (ℕ × ℕ)) → ends_resync (ack_rece
 end_ack c (Some (table, number)) = end_passed (is_out table c.shares) c table number
 end_ack c None = refl
 
-kept_writes : (ids : List ℕ) (steps : List (Event × List Action)) (phase : Phase) (s e : StandingState) (now : ℕ) (known : KnownState) (acts : List Action) → IsKeptIn ids steps phase → Writes phase s now known acts e → IsKeptIn ids (with_step steps (events.Written known) acts) e.session.phase
+kept_writes : (ids : List ℕ) (steps : List (Event × List Action)) (phase : Phase) (s e : StandingState) (now : ℕ) (known : KnownState) (acts : List Action) → IsKeptIn true ids steps phase → Writes phase s now known acts e → IsKeptIn true ids (with_step steps (events.Written known) acts) e.session.phase
 kept_writes ids steps (phases.Open c) s e now known acts sound ((mid, answered, none, ends), is, paces) =
     answered_kept ids steps (ack_received c (inferred c.asked s.pace.progress)).1 mid dues.Teach (events.Written known) acts e.session
     (sound_ack ids steps c (inferred c.asked s.pace.progress) sound) answered.0 answered.1
@@ -214,64 +103,60 @@ kept_writes ids steps (phases.Hello greeter bytes c) s e now known acts kept wri
 kept_writes ids steps phases.Ended s e now known acts kept writes = absurd writes
 
 -- a late acknowledgement
-kept_late : (ids : List ℕ) (steps : List (Event × List Action)) (phase : Phase) (s : SessionState) (table : ℕ) (acts : List Action) (e : SessionState) → IsKeptIn ids steps phase → GoesIn phase s (events.Settled table settles.Older) acts e → IsKeptIn ids (with_step steps (events.Refused table) acts) e.phase
+kept_late : (ids : List ℕ) (steps : List (Event × List Action)) (phase : Phase) (s : SessionState) (table : ℕ) (acts : List Action) (e : SessionState) → IsKeptIn true ids steps phase → GoesIn phase s (events.Settled table settles.Older) acts e → IsKeptIn true ids (with_step steps (events.Refused table) acts) e.phase
 kept_late ids steps (phases.Open c) s table acts e sound (mid, answered, (is, ends)) =
     answered_kept ids steps c mid (dues.Ack table) (events.Refused table) acts e sound answered.0 answered.1 (λ id. subst (IsLeft id) (sym is) (refl, refl)) (ap (λ (x : SessionState). x.phase) ends)
 kept_late ids steps (phases.New hello c) s table acts e kept goes = absurd goes
 kept_late ids steps (phases.Hello greeter bytes c) s table acts e kept goes = absurd goes
 kept_late ids steps phases.Ended s table acts e kept goes = absurd goes
 
-kept_refused : (ids : List ℕ) (steps : List (Event × List Action)) (b : Bool) (s : SessionState) (table : ℕ) (acts : List Action) (e : SessionState) → IsKeptIn ids steps s.phase → GoesIn s.phase s (answer_of_refusal b table) acts e → IsKeptIn ids (with_step steps (events.Refused table) acts) e.phase
-kept_refused ids steps true s table acts e kept goes = goes_kept ids steps s.phase s (events.Refused table) acts e kept goes
+kept_refused : (ids : List ℕ) (steps : List (Event × List Action)) (b : Bool) (s : SessionState) (table : ℕ) (acts : List Action) (e : SessionState) → IsKeptIn true ids steps s.phase → GoesIn s.phase s (answer_of_refusal b table) acts e → IsKeptIn true ids (with_step steps (events.Refused table) acts) e.phase
+kept_refused ids steps true s table acts e kept goes = goes_kept true ids steps s.phase s (events.Refused table) acts e kept goes
 kept_refused ids steps false s table acts e kept goes = kept_late ids steps s.phase s table acts e kept goes
 
 -- ---- turns
 
-calm_idle : (ids : List ℕ) (steps : List (Event × List Action)) (c : Course) → c.due ≡ [] → IsSound ids steps c → IsCalm ids steps c
+calm_idle : (ids : List ℕ) (steps : List (Event × List Action)) (c : Course) → c.due ≡ [] → IsSound true ids steps c → IsCalm true ids steps c
 calm_idle ids steps c due (out, quiet, flags, sound) = (out, quiet, flags, rw due refl)
 
--- a course that teaches anew is sound, and so is one whose resync ends at once
-sound_finished : (ids : List ℕ) (steps : List (Event × List Action)) (b : Bool) (c : Course) (out : ℕ → Bool) → AreFlags ids steps true c.shares out never → no_copies c.due ≡ true → c.teaching ≡ true → IsSound ids steps (finished_if b c).1
-sound_finished ids steps true c out flags none so = (out, never, (flags.0, λ bad. absurd (false≢true bad)), due_sound steps false out never c.due none)
-sound_finished ids steps false c out flags none so = (out, never, subst (λ (b : Bool). AreFlags ids steps b c.shares out never) (sym so) flags, due_sound steps c.teaching out never c.due none)
+sound_after : (ids : List ℕ) (steps : List (Event × List Action)) (b : Bool) (c : Course) (out quiet : ℕ → Bool) → AreFlags true ids steps c out quiet → no_copies c.due ≡ true → IsSound true ids steps (finished_if b c).1
+sound_after ids steps true c out quiet flags none = (out, quiet, (flags.0, (λ bad. absurd (false≢true bad)), flags.2), due_sound true steps false out quiet c.due none)
+sound_after ids steps false c out quiet flags none = (out, quiet, flags, due_sound true steps c.teaching out quiet c.due none)
 
-sound_begun : (ids : List ℕ) (steps : List (Event × List Action)) (c : Course) → c.due ≡ [] → IsSound ids steps c → (later : List (Event × List Action)) → IsSound ids later (begun_resync c).1
-sound_begun ids steps c due (out, quiet, flags, sound) later =
-    sound_finished ids later _ (teaching_anew c) out (anew_flags ids later c.shares out quiet flags.0) (rw due refl) refl
+sound_begun : (ids : List ℕ) (steps later : List (Event × List Action)) (c : Course) → c.due ≡ [] → IsSound true ids steps c → IsSound true ids later (begun_resync c).1
+sound_begun ids steps later c due (out, quiet, flags, sound) = sound_after ids later _ (teaching_anew c) out never (anew_flags true ids steps later c out quiet flags) (rw due refl)
 
-kept_does : (ids : List ℕ) (steps : List (Event × List Action)) (task : Task) (s e : StandingState) (c : Course) (now : ℕ) (acts : List Action) → s.session.phase ≡ phases.Open c → IsKeptIn ids steps s.session.phase → Does task s c now acts e → IsKeptIn ids (with_step steps events.Turn acts) e.session.phase
-kept_does ids steps tasks.Copy s e c now acts stands kept (goes, paces) = goes_kept ids steps s.session.phase s.session events.Turn acts e.session kept goes
+kept_does : (ids : List ℕ) (steps : List (Event × List Action)) (task : Task) (s e : StandingState) (c : Course) (now : ℕ) (acts : List Action) → s.session.phase ≡ phases.Open c → IsKeptIn true ids steps s.session.phase → Does task s c now acts e → IsKeptIn true ids (with_step steps events.Turn acts) e.session.phase
+kept_does ids steps tasks.Copy s e c now acts stands kept (goes, paces) = goes_kept true ids steps s.session.phase s.session events.Turn acts e.session kept goes
 kept_does ids steps tasks.Rest s e c now acts stands kept (due, is, same) =
-    let sound : IsSound ids steps c = subst (IsKeptIn ids steps) stands kept in
+    let sound : IsSound true ids steps c = subst (IsKeptIn true ids steps) stands kept in
     kept_at ids (with_step steps events.Turn acts) e.session (phases.Open c) (ap (λ (x : StandingState). x.session.phase) same ∙ stands)
-    (calm_sound ids (with_step steps events.Turn acts) c (calm_more ids steps c events.Turn acts (λ id. subst (IsLeft id) (sym is) (refl, refl)) (calm_idle ids steps c due sound)))
+    (calm_sound true ids (with_step steps events.Turn acts) c (calm_more true ids steps c events.Turn acts (λ id. subst (IsLeft id) (sym is) (refl, refl)) (calm_idle ids steps c due sound)))
 kept_does ids steps tasks.Begin s e c now acts stands kept (due, is, session, paces) =
-    let sound : IsSound ids steps c = subst (IsKeptIn ids steps) stands kept in
+    let sound : IsSound true ids steps c = subst (IsKeptIn true ids steps) stands kept in
     kept_at ids (with_step steps events.Turn acts) e.session (phases.Open (begun_resync c).1) (ap (λ (x : SessionState). x.phase) session)
-    (sound_begun ids steps c due sound (with_step steps events.Turn acts))
+    (sound_begun ids steps (with_step steps events.Turn acts) c due sound)
 
-kept_turn : (ids : List ℕ) (steps : List (Event × List Action)) (phase : Phase) (s e : StandingState) (now : ℕ) (acts : List Action) → s.session.phase ≡ phase → IsKeptIn ids steps s.session.phase → TakesTurn phase s now acts e → IsKeptIn ids (with_step steps events.Turn acts) e.session.phase
+kept_turn : (ids : List ℕ) (steps : List (Event × List Action)) (phase : Phase) (s e : StandingState) (now : ℕ) (acts : List Action) → s.session.phase ≡ phase → IsKeptIn true ids steps s.session.phase → TakesTurn phase s now acts e → IsKeptIn true ids (with_step steps events.Turn acts) e.session.phase
 kept_turn ids steps (phases.Open c) s e now acts stands kept does = kept_does ids steps (task_at now s.pace c) s e c now acts stands kept does
-kept_turn ids steps (phases.New hello c) s e now acts stands kept (goes, paces) = goes_kept ids steps s.session.phase s.session events.Turn acts e.session kept goes
-kept_turn ids steps (phases.Hello greeter bytes c) s e now acts stands kept (goes, paces) = goes_kept ids steps s.session.phase s.session events.Turn acts e.session kept goes
-kept_turn ids steps phases.Ended s e now acts stands kept (goes, paces) = goes_kept ids steps s.session.phase s.session events.Turn acts e.session kept goes
+kept_turn ids steps (phases.New hello c) s e now acts stands kept (goes, paces) = goes_kept true ids steps s.session.phase s.session events.Turn acts e.session kept goes
+kept_turn ids steps (phases.Hello greeter bytes c) s e now acts stands kept (goes, paces) = goes_kept true ids steps s.session.phase s.session events.Turn acts e.session kept goes
+kept_turn ids steps phases.Ended s e now acts stands kept (goes, paces) = goes_kept true ids steps s.session.phase s.session events.Turn acts e.session kept goes
 
 -- ---- each event preserves what a run preserves
 
-kept_stands : (ids : List ℕ) (steps : List (Event × List Action)) (event : Event) (s e : StandingState) (now : ℕ) (acts : List Action) → IsKeptIn ids steps s.session.phase → Stands s now event acts e → IsKeptIn ids (with_step steps event acts) e.session.phase
-kept_stands ids steps (events.Bytes bytes) s e now acts kept (given, mid, goes, is, session, paces) =
-    kept_at ids (with_step steps (events.Bytes bytes) acts) e.session (changed (put_off (teaches s.session.phase) (shared s.session.phase)) mid.phase) (ap (λ (x : SessionState). x.phase) session)
-    (attended_in ids steps s.session.phase s.session bytes given acts mid kept is goes).0
+kept_stands : (ids : List ℕ) (steps : List (Event × List Action)) (event : Event) (s e : StandingState) (now : ℕ) (acts : List Action) → IsKeptIn true ids steps s.session.phase → Stands s now event acts e → IsKeptIn true ids (with_step steps event acts) e.session.phase
+kept_stands ids steps (events.Bytes bytes) s e now acts kept (goes, paces) = goes_kept true ids steps s.session.phase s.session (events.Bytes bytes) acts e.session kept goes
 kept_stands ids steps events.Turn s e now acts kept turns = kept_turn ids steps s.session.phase s e now acts refl kept turns
-kept_stands ids steps (events.Copied table batch) s e now acts kept (goes, paces) = goes_kept ids steps s.session.phase s.session (events.Copied table batch) acts e.session kept goes
+kept_stands ids steps (events.Copied table batch) s e now acts kept (goes, paces) = goes_kept true ids steps s.session.phase s.session (events.Copied table batch) acts e.session kept goes
 kept_stands ids steps (events.Written known) s e now acts kept writes = kept_writes ids steps s.session.phase s e now known acts kept writes
 kept_stands ids steps (events.Refused table) s e now acts kept (goes, paces) = kept_refused ids steps (is_ahead table s.pace.progress) s.session table acts e.session kept goes
-kept_stands ids steps events.Opened s e now acts kept (goes, paces) = goes_kept ids steps s.session.phase s.session events.Opened acts e.session kept goes
-kept_stands ids steps events.End s e now acts kept (goes, paces) = goes_kept ids steps s.session.phase s.session events.End acts e.session kept goes
-kept_stands ids steps events.ReadFault s e now acts kept (goes, paces) = goes_kept ids steps s.session.phase s.session events.ReadFault acts e.session kept goes
-kept_stands ids steps events.WriteFault s e now acts kept (goes, paces) = goes_kept ids steps s.session.phase s.session events.WriteFault acts e.session kept goes
-kept_stands ids steps (events.Nothing table) s e now acts kept (goes, paces) = goes_kept ids steps s.session.phase s.session (events.Nothing table) acts e.session kept goes
-kept_stands ids steps (events.Settled table settled) s e now acts kept (goes, paces) = goes_kept ids steps s.session.phase s.session (events.Settled table settled) acts e.session kept goes
+kept_stands ids steps events.Opened s e now acts kept (goes, paces) = goes_kept true ids steps s.session.phase s.session events.Opened acts e.session kept goes
+kept_stands ids steps events.End s e now acts kept (goes, paces) = goes_kept true ids steps s.session.phase s.session events.End acts e.session kept goes
+kept_stands ids steps events.ReadFault s e now acts kept (goes, paces) = goes_kept true ids steps s.session.phase s.session events.ReadFault acts e.session kept goes
+kept_stands ids steps events.WriteFault s e now acts kept (goes, paces) = goes_kept true ids steps s.session.phase s.session events.WriteFault acts e.session kept goes
+kept_stands ids steps (events.Nothing table) s e now acts kept (goes, paces) = goes_kept true ids steps s.session.phase s.session (events.Nothing table) acts e.session kept goes
+kept_stands ids steps (events.Settled table settled) s e now acts kept (goes, paces) = goes_kept true ids steps s.session.phase s.session (events.Settled table settled) acts e.session kept goes
 
 -- ---- ticks
 
@@ -295,37 +180,33 @@ shares_staying left (d ∷ ds) out quiet =
     share_staying (stays_in left d.id) _ _ _ (shares_staying left ds out quiet) ∙ sym (staying_cond (stays_in left d.id) d (staying left ds) out quiet)
 
 -- what a tick leaves of the flags
-staying_flags : (left : List ℕ) (ds : List Definition) (steps : List (Event × List Action)) (teaching : Bool) (ss : List Share) (out quiet : ℕ → Bool) → AreFlags (ids_of ds) steps teaching ss out quiet → AreFlags (ids_of (staying left ds)) steps teaching (filter (λ s. stays_in left s.table) ss) out quiet
-staying_flags left ds steps teaching ss out quiet (shares, rest) = (ap (filter (λ s. stays_in left s.table)) shares ∙ shares_staying left ds out quiet, rest)
-
-sound_after : (ids : List ℕ) (steps : List (Event × List Action)) (b : Bool) (c : Course) (out quiet : ℕ → Bool) → AreFlags ids steps c.teaching c.shares out quiet → no_copies c.due ≡ true → IsSound ids steps (finished_if b c).1
-sound_after ids steps true c out quiet flags none = (out, quiet, (flags.0, λ bad. absurd (false≢true bad)), due_sound steps false out quiet c.due none)
-sound_after ids steps false c out quiet flags none = (out, quiet, flags, due_sound steps c.teaching out quiet c.due none)
+staying_flags : (left : List ℕ) (ds : List Definition) (steps : List (Event × List Action)) (c : Course) (out quiet : ℕ → Bool) → AreFlags true (ids_of ds) steps c out quiet → AreFlags true (ids_of (staying left ds)) steps (without_tables left c) out quiet
+staying_flags left ds steps c out quiet (shares, rest, stays) = (ap (filter (λ s. stays_in left s.table)) shares ∙ shares_staying left ds out quiet, rest, stays)
 
 staying_all : (ds : List Definition) → staying [] ds ≡ ds
 staying_all [] = refl
 staying_all (d ∷ ds) = ap (λ (xs : List Definition). d ∷ xs) (staying_all ds)
 
-sound_leaving : (left : List ℕ) (ds : List Definition) (steps : List (Event × List Action)) (c : Course) → IsCalm (ids_of ds) steps c → IsSound (ids_of (staying left ds)) steps (leaving left c).1
-sound_leaving [] ds steps c calm = subst (λ (xs : List Definition). IsSound (ids_of xs) steps c) (sym (staying_all ds)) (calm_sound (ids_of ds) steps c calm)
+sound_leaving : (left : List ℕ) (ds : List Definition) (steps : List (Event × List Action)) (c : Course) → IsCalm true (ids_of ds) steps c → IsSound true (ids_of (staying left ds)) steps (leaving left c).1
+sound_leaving [] ds steps c calm = subst (λ (xs : List Definition). IsSound true (ids_of xs) steps c) (sym (staying_all ds)) (calm_sound true (ids_of ds) steps c calm)
 sound_leaving (table ∷ tables) ds steps c (out, quiet, flags, none) =
-    sound_after (ids_of (staying (table ∷ tables) ds)) steps _ (without_tables (table ∷ tables) c) out quiet (staying_flags (table ∷ tables) ds steps c.teaching c.shares out quiet flags) none
+    sound_after (ids_of (staying (table ∷ tables) ds)) steps _ (without_tables (table ∷ tables) c) out quiet (staying_flags (table ∷ tables) ds steps c out quiet flags) none
 
 none_calm : (due : List Due) → none_due due ≡ true → no_copies due ≡ true
 none_calm [] none = refl
 none_calm (d ∷ ds) none = absurd (false≢true none)
 
-kept_still : (ds : List Definition) (steps : List (Event × List Action)) (left : List ℕ) (s e : StandingState) → left ≡ [] → e ≡ s → IsKeptIn (ids_of ds) steps s.session.phase → IsKeptIn (ids_of (staying left ds)) steps e.session.phase
+kept_still : (ds : List Definition) (steps : List (Event × List Action)) (left : List ℕ) (s e : StandingState) → left ≡ [] → e ≡ s → IsKeptIn true (ids_of ds) steps s.session.phase → IsKeptIn true (ids_of (staying left ds)) steps e.session.phase
 kept_still ds steps left s e none same kept =
-    subst (λ (xs : List ℕ). IsKeptIn (ids_of (staying xs ds)) steps e.session.phase) (sym none)
-    (subst (λ (xs : List Definition). IsKeptIn (ids_of xs) steps e.session.phase) (sym (staying_all ds))
-    (subst (λ (x : StandingState). IsKeptIn (ids_of ds) steps x.session.phase) (sym same) kept))
+    subst (λ (xs : List ℕ). IsKeptIn true (ids_of (staying xs ds)) steps e.session.phase) (sym none)
+    (subst (λ (xs : List Definition). IsKeptIn true (ids_of xs) steps e.session.phase) (sym (staying_all ds))
+    (subst (λ (x : StandingState). IsKeptIn true (ids_of ds) steps x.session.phase) (sym same) kept))
 
-kept_ticks : (ds : List Definition) (steps : List (Event × List Action)) (silent : Bool) (phase : Phase) (s e : StandingState) (now : ℕ) (left : List ℕ) (acts : List Action) → s.session.phase ≡ phase → is_asked phase events.Turn ≡ true → IsKeptIn (ids_of ds) steps s.session.phase → TicksIn silent phase s now left acts e → IsKeptIn (ids_of (staying left ds)) steps e.session.phase
+kept_ticks : (ds : List Definition) (steps : List (Event × List Action)) (silent : Bool) (phase : Phase) (s e : StandingState) (now : ℕ) (left : List ℕ) (acts : List Action) → s.session.phase ≡ phase → is_asked phase events.Turn ≡ true → IsKeptIn true (ids_of ds) steps s.session.phase → TicksIn silent phase s now left acts e → IsKeptIn true (ids_of (staying left ds)) steps e.session.phase
 kept_ticks ds steps true phase s e now left acts stands asked kept (leaves, is, session, paces) =
     kept_at (ids_of (staying left ds)) steps e.session phases.Ended (ap (λ (x : SessionState). x.phase) session) tt
 kept_ticks ds steps false (phases.Open c) s e now left acts stands asked kept (leaves, is, session, paces) =
-    let sound : IsSound (ids_of ds) steps c = subst (IsKeptIn (ids_of ds) steps) stands kept in
+    let sound : IsSound true (ids_of ds) steps c = subst (IsKeptIn true (ids_of ds) steps) stands kept in
     kept_at (ids_of (staying left ds)) steps e.session (phases.Open (leaving left c).1) (ap (λ (x : SessionState). x.phase) session)
     (sound_leaving left ds steps c (sound.0, sound.1, sound.2, none_calm c.due asked))
 kept_ticks ds steps false (phases.New hello c) s e now left acts stands asked kept (leaves, is, same) = kept_still ds steps left s e leaves same kept
@@ -335,9 +216,41 @@ kept_ticks ds steps false phases.Ended s e now left acts stands asked kept (leav
 -- ---- events that end no resync
 
 abbrev pub IsEndless : Event → Type 0
-IsEndless (events.Bytes bytes) = ⊥
 IsEndless (events.Nothing table) = ⊥
 IsEndless event = Unit {0}
+
+endless_concluded : (s : SessionState) (c mid : Course) (result : Result (Unit {0}) Halt) (first given acts : List Action) (e : SessionState) → is_plain 0 first → ReceivesAll c result given mid → Concludes s mid result (first ++ given) acts e → ends_resync acts ≡ false
+endless_concluded s c mid (Ok u) first given acts e plain (ts, are, waits) (all, then) =
+    ap ends_resync all ∙ (plain_append 0 (first ++ given) (acks_given mid) (plain_append 0 first given plain (plain_all 0 c mid ts given are)) (plain_acks 0 mid.intake)).0
+endless_concluded s c mid (Err halts.Failed) first given acts e plain (ts, at_halt, are, halted) (all, then) =
+    ap ends_resync all ∙ (plain_append 0 (first ++ given) (actions.Close ∷ []) (plain_append 0 first given plain (plain_all 0 c at_halt ts given are)) (refl, refl)).0
+endless_concluded s c mid (Err (halts.Fault fault)) first given acts e plain (ts, at_halt, are, halted) (all, then) =
+    ap ends_resync all ∙ (plain_append 0 (first ++ given) (actions.Part _ ∷ []) (plain_append 0 first given plain (plain_all 0 c at_halt ts given are)) (refl, refl)).0
+endless_concluded s c mid (Err halts.Memory) first given acts e plain receives concludes = absurd concludes
+
+endless_receives : (s : SessionState) (c : Course) (first acts : List Action) (e : SessionState) → is_plain 0 first → ReceivesBytes s c first acts e → ends_resync acts ≡ false
+endless_receives s c first acts e plain (result, given, mid, receives, concludes) = endless_concluded s c mid result first given acts e plain receives concludes
+
+endless_welcomed : (b : Bool) (version : Version) (code : ℕ) (s : SessionState) (c : Course) (rest : List ℕ) (acts : List Action) (e : SessionState) → IsWelcomed b version code s c rest acts e → ends_resync acts ≡ false
+endless_welcomed true version code s c rest acts e receives =
+    endless_receives (speaking version s) (course_fed c rest) (sends_control (first_word c.stays) ∷ opening version c.shares) acts e (plain_ready 0 (sends_control (first_word c.stays)) version c.shares (plain_word 0 c.stays)) receives
+endless_welcomed false version code s c rest acts e (is, then) = ap ends_resync is
+
+endless_connects : (version : Version) (status : Status) (s : SessionState) (bytes : List ℕ) (c : Course) (acts : List Action) (e : SessionState) → Connects version status s bytes c acts e → ends_resync acts ≡ false
+endless_connects version statuses.More s bytes c acts e (is, then) = ap ends_resync is
+endless_connects version (statuses.Code code used) s bytes c acts e goes = endless_welcomed _ version code s c _ acts e goes
+endless_connects version (statuses.Other used) s bytes c acts e (is, then) = ap ends_resync is
+
+endless_accepts : (answer : Answer) (s : SessionState) (greeter : Greeter) (bytes : List ℕ) (c : Course) (acts : List Action) (e : SessionState) → Accepts answer s greeter bytes c acts e → ends_resync acts ≡ false
+endless_accepts answers.More s greeter bytes c acts e (is, then) = ap ends_resync is
+endless_accepts (answers.Accepted name version used) s greeter bytes c acts e goes =
+    endless_receives (speaking version s) (course_fed c (drop used bytes)) (actions.Send (status_text 200) ∷ opening version c.shares) acts e (plain_ready 0 (actions.Send (status_text 200)) version c.shares (plain_status 0 200)) goes
+endless_accepts (answers.Refused code used) s greeter bytes c acts e (is, then) =
+    ap ends_resync is ∙ (plain_append 0 (actions.Send (status_text code) ∷ []) (actions.Close ∷ []) (plain_status 0 code) (refl, refl)).0
+
+endless_greets : (s : SessionState) (greeter : Greeter) (bytes : List ℕ) (c : Course) (acts : List Action) (e : SessionState) → Greets s greeter bytes c acts e → ends_resync acts ≡ false
+endless_greets s (greeters.Connects version) bytes c acts e goes = endless_connects version (status_of bytes) s bytes c acts e goes
+endless_greets s (greeters.Accepts own peers) bytes c acts e goes = endless_accepts (answer_of own peers bytes) s (greeters.Accepts own peers) bytes c acts e goes
 
 endless_new : (s : SessionState) (hello : Hello) (c : Course) (event : Event) (acts : List Action) (e : SessionState) → GoesNew s hello c event acts e → ends_resync acts ≡ false
 endless_new s hello c events.Opened acts e (is, then) = ap ends_resync is
@@ -352,18 +265,18 @@ endless_new s hello c (events.Written known) acts e goes = absurd goes
 endless_new s hello c (events.Settled table settled) acts e goes = absurd goes
 endless_new s hello c (events.Refused table) acts e goes = absurd goes
 
-endless_hello : (s : SessionState) (greeter : Greeter) (bytes : List ℕ) (c : Course) (event : Event) (acts : List Action) (e : SessionState) → IsEndless event → GoesHello s greeter bytes c event acts e → ends_resync acts ≡ false
-endless_hello s greeter bytes c (events.Bytes piece) acts e other goes = absurd other
-endless_hello s greeter bytes c events.Turn acts e other (is, then) = ap ends_resync is
-endless_hello s greeter bytes c events.End acts e other (is, then) = ap ends_resync is
-endless_hello s greeter bytes c events.ReadFault acts e other (is, then) = ap ends_resync is
-endless_hello s greeter bytes c events.WriteFault acts e other (is, then) = ap ends_resync is
-endless_hello s greeter bytes c events.Opened acts e other goes = absurd goes
-endless_hello s greeter bytes c (events.Copied table batch) acts e other goes = absurd goes
-endless_hello s greeter bytes c (events.Nothing table) acts e other goes = absurd goes
-endless_hello s greeter bytes c (events.Written known) acts e other goes = absurd goes
-endless_hello s greeter bytes c (events.Settled table settled) acts e other goes = absurd goes
-endless_hello s greeter bytes c (events.Refused table) acts e other goes = absurd goes
+endless_hello : (s : SessionState) (greeter : Greeter) (bytes : List ℕ) (c : Course) (event : Event) (acts : List Action) (e : SessionState) → GoesHello s greeter bytes c event acts e → ends_resync acts ≡ false
+endless_hello s greeter bytes c (events.Bytes piece) acts e goes = endless_greets s greeter (bytes ++ piece) c acts e goes
+endless_hello s greeter bytes c events.Turn acts e (is, then) = ap ends_resync is
+endless_hello s greeter bytes c events.End acts e (is, then) = ap ends_resync is
+endless_hello s greeter bytes c events.ReadFault acts e (is, then) = ap ends_resync is
+endless_hello s greeter bytes c events.WriteFault acts e (is, then) = ap ends_resync is
+endless_hello s greeter bytes c events.Opened acts e goes = absurd goes
+endless_hello s greeter bytes c (events.Copied table batch) acts e goes = absurd goes
+endless_hello s greeter bytes c (events.Nothing table) acts e goes = absurd goes
+endless_hello s greeter bytes c (events.Written known) acts e goes = absurd goes
+endless_hello s greeter bytes c (events.Settled table settled) acts e goes = absurd goes
+endless_hello s greeter bytes c (events.Refused table) acts e goes = absurd goes
 
 endless_turns : (asked : Option ℕ) (s : SessionState) (c : Course) (acts : List Action) (e : SessionState) → Turns asked s c acts e → ends_resync acts ≡ false
 endless_turns None s c acts e (is, then) = ap ends_resync is
@@ -380,7 +293,7 @@ endless_settles settles.Older s c table acts e (is, then) = ap ends_resync is
 
 endless_open : (s : SessionState) (c : Course) (event : Event) (acts : List Action) (e : SessionState) → IsEndless event → GoesOpen s c event acts e → ends_resync acts ≡ false
 endless_open s c events.Turn acts e other (due, turns) = endless_turns (table_to_ask c) s c acts e turns
-endless_open s c (events.Bytes bytes) acts e other goes = absurd other
+endless_open s c (events.Bytes bytes) acts e other (due, receives) = endless_receives s (course_fed c bytes) [] acts e (refl, refl) receives
 endless_open s c (events.Copied table batch) acts e other (mid, answered, (is, then)) = ap ends_resync is
 endless_open s c (events.Nothing table) acts e other goes = absurd other
 endless_open s c (events.Written known) acts e other (mid, answered, is, then) = ap ends_resync is
@@ -393,7 +306,7 @@ endless_open s c events.Opened acts e other goes = absurd goes
 
 pub endless_in : (phase : Phase) (s : SessionState) (event : Event) (acts : List Action) (e : SessionState) → IsEndless event → GoesIn phase s event acts e → ends_resync acts ≡ false
 endless_in (phases.New hello c) s event acts e other goes = endless_new s hello c event acts e goes
-endless_in (phases.Hello greeter bytes c) s event acts e other goes = endless_hello s greeter bytes c event acts e other goes
+endless_in (phases.Hello greeter bytes c) s event acts e other goes = endless_hello s greeter bytes c event acts e goes
 endless_in (phases.Open c) s event acts e other goes = endless_open s c event acts e other goes
 endless_in phases.Ended s event acts e other goes = absurd goes
 
@@ -405,7 +318,7 @@ endless_refusal false table = tt
 
 -- no batch is outstanding then, and no table that isn't left has anything left to teach
 abbrev IsTaught : List Definition → List (Event × List Action) → SessionState → Type 0
-IsTaught ds steps e = HasNothingOut e × AllByRecursion (λ d. HasNothingLeft steps d.id) ds
+IsTaught ds steps e = HasNothingOut e × AllByRecursion (λ d. HasNothingLeft kinds.Standing steps d.id) ds
 
 never_ends : {X : Type 0} (acts : List Action) → ends_resync acts ≡ false → ends_resync acts ≡ true → X
 never_ends acts none ends = absurd (false≢true (sym none ∙ ends))
@@ -415,25 +328,25 @@ both_true true b so = (refl, so)
 both_true false b so = absurd (false≢true so)
 
 -- tables that are all quiet in a resync
-quiet_taught : (ds : List Definition) (steps : List (Event × List Action)) (teaching : Bool) (ss : List Share) (out quiet : ℕ → Bool) → AreFlags (ids_of ds) steps teaching ss out quiet → teaching ≡ true → all_quiet ss ≡ true → (any_out ss ≡ false) × AllByRecursion (λ d. HasNothingLeft steps d.id) ds
-quiet_taught ds steps teaching ss out quiet (shares, left) so all =
+quiet_taught : (ds : List Definition) (steps : List (Event × List Action)) (c : Course) (out quiet : ℕ → Bool) → AreFlags true (ids_of ds) steps c out quiet → c.teaching ≡ true → all_quiet c.shares ≡ true → (any_out c.shares ≡ false) × AllByRecursion (λ d. HasNothingLeft kinds.Standing steps d.id) ds
+quiet_taught ds steps c out quiet (shares, left, stays) so all =
     let quiets : all_quiet (shares_in (ids_of ds) out quiet) ≡ true = sym (ap all_quiet shares) ∙ all in (
       ap any_out shares ∙ none_out (ids_of ds) out quiet (λ id is_quiet. (left so id is_quiet).0) quiets,
-      each_quiet (HasNothingLeft steps) ds out quiet (λ id is_quiet. (left so id is_quiet).1) quiets,
+      each_quiet (HasNothingLeft kinds.Standing steps) ds out quiet (λ id is_quiet. (left so id is_quiet).1) quiets,
     )
 
-end_finishes : (ds : List Definition) (steps : List (Event × List Action)) (b : Bool) (s : SessionState) (c : Course) (table : ℕ) (rest : List Due) (acts : List Action) (e : SessionState) → IsSound (ids_of ds) steps c → c.due ≡ dues.Copy table ∷ rest → c.teaching ≡ true → all_quiet (quiet_set table c.shares) ≡ b → FinishesResync b s (record c { shares = quiet_set table c.shares; due = rest }) acts e → ends_resync acts ≡ true → IsTaught ds (with_step steps (events.Nothing table) acts) e
+end_finishes : (ds : List Definition) (steps : List (Event × List Action)) (b : Bool) (s : SessionState) (c : Course) (table : ℕ) (rest : List Due) (acts : List Action) (e : SessionState) → IsSound true (ids_of ds) steps c → c.due ≡ dues.Copy table ∷ rest → c.teaching ≡ true → all_quiet (quiet_set table c.shares) ≡ b → FinishesResync b s (record c { shares = quiet_set table c.shares; due = rest }) acts e → ends_resync acts ≡ true → IsTaught ds (with_step steps (events.Nothing table) acts) e
 end_finishes ds steps false s c table rest acts e sound due so all (is, ends) comes = never_ends acts (ap ends_resync is) comes
 end_finishes ds steps true s c table rest acts e sound due so all (is, ends) comes =
-    let q = quieted (ids_of ds) steps c table rest acts sound due so (λ id. rw is (refl, refl)) in
-    let taught = quiet_taught ds (with_step steps (events.Nothing table) acts) c.teaching (quiet_set table c.shares) q.0 q.1 q.2 so all in
+    let q = quieted true (ids_of ds) steps c table rest acts sound due so (λ id. rw is (refl, refl)) in
+    let taught = quiet_taught ds (with_step steps (events.Nothing table) acts) (record c { shares = quiet_set table c.shares }) q.0 q.1 q.2 so all in
     ((record c { shares = quiet_set table c.shares; due = rest; teaching = false }, ap (λ (x : SessionState). x.phase) ends, taught.0), taught.1)
 
-end_nothing : (ds : List Definition) (steps : List (Event × List Action)) (b : Bool) (s : SessionState) (c : Course) (table : ℕ) (rest : List Due) (acts : List Action) (e : SessionState) → IsSound (ids_of ds) steps c → c.due ≡ dues.Copy table ∷ rest → c.teaching ≡ b → HasNothing b s (record c { due = rest }) table acts e → ends_resync acts ≡ true → IsTaught ds (with_step steps (events.Nothing table) acts) e
+end_nothing : (ds : List Definition) (steps : List (Event × List Action)) (b : Bool) (s : SessionState) (c : Course) (table : ℕ) (rest : List Due) (acts : List Action) (e : SessionState) → IsSound true (ids_of ds) steps c → c.due ≡ dues.Copy table ∷ rest → c.teaching ≡ b → HasNothing b s (record c { due = rest }) table acts e → ends_resync acts ≡ true → IsTaught ds (with_step steps (events.Nothing table) acts) e
 end_nothing ds steps true s c table rest acts e sound due so finishes comes = end_finishes ds steps _ s c table rest acts e sound due so refl finishes comes
 end_nothing ds steps false s c table rest acts e sound due so (is, ends) comes = never_ends acts (ap ends_resync is) comes
 
-end_answer : (ds : List Definition) (steps : List (Event × List Action)) (phase : Phase) (s : SessionState) (table : ℕ) (acts : List Action) (e : SessionState) → IsKeptIn (ids_of ds) steps phase → GoesIn phase s (events.Nothing table) acts e → ends_resync acts ≡ true → IsTaught ds (with_step steps (events.Nothing table) acts) e
+end_answer : (ds : List Definition) (steps : List (Event × List Action)) (phase : Phase) (s : SessionState) (table : ℕ) (acts : List Action) (e : SessionState) → IsKeptIn true (ids_of ds) steps phase → GoesIn phase s (events.Nothing table) acts e → ends_resync acts ≡ true → IsTaught ds (with_step steps (events.Nothing table) acts) e
 end_answer ds steps (phases.Open c) s table acts e sound (mid, answered, nothing) comes =
     end_nothing ds steps c.teaching s c table mid.due acts e sound answered.0 refl (subst (λ (m : Course). HasNothing m.teaching s m table acts e) answered.1 nothing) comes
 end_answer ds steps (phases.New hello c) s table acts e kept goes comes = absurd goes
@@ -441,21 +354,21 @@ end_answer ds steps (phases.Hello greeter bytes c) s table acts e kept goes come
 end_answer ds steps phases.Ended s table acts e kept goes comes = absurd goes
 
 -- a resync that ends as it begins
-end_begun : (ds : List Definition) (steps : List (Event × List Action)) (b : Bool) (c : Course) (acts : List Action) (e : SessionState) (out quiet : ℕ → Bool) → c.shares ≡ shares_in (ids_of ds) out quiet → all_quiet (unquieted c.shares) ≡ b → acts ≡ reopens c.shares ++ (finished_if b (teaching_anew c)).0 → e.phase ≡ phases.Open (finished_if b (teaching_anew c)).1 → ends_resync acts ≡ true → IsTaught ds steps e
-end_begun ds steps false c acts e out quiet shares all is stands comes =
+end_begun : (ds : List Definition) (steps : List (Event × List Action)) (b : Bool) (c : Course) (acts : List Action) (e : SessionState) (out : ℕ → Bool) → AreFlags true (ids_of ds) steps (teaching_anew c) out never → all_quiet (unquieted c.shares) ≡ b → acts ≡ reopens c.shares ++ (finished_if b (teaching_anew c)).0 → e.phase ≡ phases.Open (finished_if b (teaching_anew c)).1 → ends_resync acts ≡ true → IsTaught ds steps e
+end_begun ds steps false c acts e out flags all is stands comes =
     never_ends acts (ap ends_resync is ∙ (plain_append 0 (reopens c.shares) [] (plain_reopens 0 c.shares) (refl, refl)).0) comes
-end_begun ds steps true c acts e out quiet shares all is stands comes =
-    let taught = quiet_taught ds steps true (unquieted c.shares) out never (anew_flags (ids_of ds) steps c.shares out quiet shares) refl all in
+end_begun ds steps true c acts e out flags all is stands comes =
+    let taught = quiet_taught ds steps (teaching_anew c) out never flags refl all in
     ((record (teaching_anew c) { teaching = false }, stands, taught.0), taught.1)
 
-end_does : (ds : List Definition) (steps : List (Event × List Action)) (task : Task) (s e : StandingState) (c : Course) (now : ℕ) (acts : List Action) → s.session.phase ≡ phases.Open c → IsKeptIn (ids_of ds) steps s.session.phase → Does task s c now acts e → ends_resync acts ≡ true → IsTaught ds (with_step steps events.Turn acts) e.session
+end_does : (ds : List Definition) (steps : List (Event × List Action)) (task : Task) (s e : StandingState) (c : Course) (now : ℕ) (acts : List Action) → s.session.phase ≡ phases.Open c → IsKeptIn true (ids_of ds) steps s.session.phase → Does task s c now acts e → ends_resync acts ≡ true → IsTaught ds (with_step steps events.Turn acts) e.session
 end_does ds steps tasks.Copy s e c now acts stands kept (goes, paces) comes = never_ends acts (endless_in s.session.phase s.session events.Turn acts e.session tt goes) comes
 end_does ds steps tasks.Rest s e c now acts stands kept (due, is, same) comes = never_ends acts (ap ends_resync is) comes
 end_does ds steps tasks.Begin s e c now acts stands kept (due, is, session, paces) comes =
-    let sound : IsSound (ids_of ds) steps c = subst (IsKeptIn (ids_of ds) steps) stands kept in
-    end_begun ds (with_step steps events.Turn acts) _ c acts e.session sound.0 sound.1 sound.2.0 refl is (ap (λ (x : SessionState). x.phase) session) comes
+    let sound : IsSound true (ids_of ds) steps c = subst (IsKeptIn true (ids_of ds) steps) stands kept in
+    end_begun ds (with_step steps events.Turn acts) _ c acts e.session sound.0 (anew_flags true (ids_of ds) steps (with_step steps events.Turn acts) c sound.0 sound.1 sound.2) refl is (ap (λ (x : SessionState). x.phase) session) comes
 
-end_turn : (ds : List Definition) (steps : List (Event × List Action)) (phase : Phase) (s e : StandingState) (now : ℕ) (acts : List Action) → s.session.phase ≡ phase → IsKeptIn (ids_of ds) steps s.session.phase → TakesTurn phase s now acts e → ends_resync acts ≡ true → IsTaught ds (with_step steps events.Turn acts) e.session
+end_turn : (ds : List Definition) (steps : List (Event × List Action)) (phase : Phase) (s e : StandingState) (now : ℕ) (acts : List Action) → s.session.phase ≡ phase → IsKeptIn true (ids_of ds) steps s.session.phase → TakesTurn phase s now acts e → ends_resync acts ≡ true → IsTaught ds (with_step steps events.Turn acts) e.session
 end_turn ds steps (phases.Open c) s e now acts stands kept does comes = end_does ds steps (task_at now s.pace c) s e c now acts stands kept does comes
 end_turn ds steps (phases.New hello c) s e now acts stands kept (goes, paces) comes = never_ends acts (endless_in s.session.phase s.session events.Turn acts e.session tt goes) comes
 end_turn ds steps (phases.Hello greeter bytes c) s e now acts stands kept (goes, paces) comes = never_ends acts (endless_in s.session.phase s.session events.Turn acts e.session tt goes) comes
@@ -467,9 +380,8 @@ end_writes ds steps (phases.New hello c) s e now known acts writes comes = absur
 end_writes ds steps (phases.Hello greeter bytes c) s e now known acts writes comes = absurd writes
 end_writes ds steps phases.Ended s e now known acts writes comes = absurd writes
 
-end_stands : (ds : List Definition) (steps : List (Event × List Action)) (event : Event) (s e : StandingState) (now : ℕ) (acts : List Action) → IsKeptIn (ids_of ds) steps s.session.phase → Stands s now event acts e → ends_resync acts ≡ true → IsTaught ds (with_step steps event acts) e.session
-end_stands ds steps (events.Bytes bytes) s e now acts kept (given, mid, goes, is, session, paces) comes =
-    never_ends acts (ap ends_resync is ∙ (ends_without given ∙ (attended_in (ids_of ds) steps s.session.phase s.session bytes given acts mid kept is goes).1)) comes
+end_stands : (ds : List Definition) (steps : List (Event × List Action)) (event : Event) (s e : StandingState) (now : ℕ) (acts : List Action) → IsKeptIn true (ids_of ds) steps s.session.phase → Stands s now event acts e → ends_resync acts ≡ true → IsTaught ds (with_step steps event acts) e.session
+end_stands ds steps (events.Bytes bytes) s e now acts kept (goes, paces) comes = never_ends acts (endless_in s.session.phase s.session (events.Bytes bytes) acts e.session tt goes) comes
 end_stands ds steps events.Turn s e now acts kept turns comes = end_turn ds steps s.session.phase s e now acts refl kept turns comes
 end_stands ds steps (events.Nothing table) s e now acts kept (goes, paces) comes = end_answer ds steps s.session.phase s.session table acts e.session kept goes comes
 end_stands ds steps (events.Written known) s e now acts kept writes comes = end_writes ds _ s.session.phase s e now known acts writes comes
@@ -487,29 +399,29 @@ end_beats : (beats : Bool) → ends_resync (heartbeats beats) ≡ false
 end_beats true = refl
 end_beats false = refl
 
-end_leaves : (ds : List Definition) (steps : List (Event × List Action)) (b beats : Bool) (c : Course) (acts : List Action) (e : SessionState) (out quiet : ℕ → Bool) → AreFlags (ids_of ds) steps c.teaching c.shares out quiet → (c.teaching && all_quiet c.shares) ≡ b → acts ≡ (finished_if b c).0 ++ heartbeats beats → e.phase ≡ phases.Open (finished_if b c).1 → ends_resync acts ≡ true → IsTaught ds steps e
+end_leaves : (ds : List Definition) (steps : List (Event × List Action)) (b beats : Bool) (c : Course) (acts : List Action) (e : SessionState) (out quiet : ℕ → Bool) → AreFlags true (ids_of ds) steps c out quiet → (c.teaching && all_quiet c.shares) ≡ b → acts ≡ (finished_if b c).0 ++ heartbeats beats → e.phase ≡ phases.Open (finished_if b c).1 → ends_resync acts ≡ true → IsTaught ds steps e
 end_leaves ds steps false beats c acts e out quiet flags all is stands comes = never_ends acts (ap ends_resync is ∙ end_beats beats) comes
 end_leaves ds steps true beats c acts e out quiet flags all is stands comes =
     let so = both_true c.teaching (all_quiet c.shares) all in
-    let taught = quiet_taught ds steps c.teaching c.shares out quiet flags so.0 so.1 in
+    let taught = quiet_taught ds steps c out quiet flags so.0 so.1 in
     ((record c { teaching = false }, stands, taught.0), taught.1)
 
-end_leaving : (left : List ℕ) (ds : List Definition) (steps : List (Event × List Action)) (beats : Bool) (c : Course) (acts : List Action) (e : SessionState) → IsSound (ids_of ds) steps c → acts ≡ (leaving left c).0 ++ heartbeats beats → e.phase ≡ phases.Open (leaving left c).1 → ends_resync acts ≡ true → IsTaught (staying left ds) steps e
+end_leaving : (left : List ℕ) (ds : List Definition) (steps : List (Event × List Action)) (beats : Bool) (c : Course) (acts : List Action) (e : SessionState) → IsSound true (ids_of ds) steps c → acts ≡ (leaving left c).0 ++ heartbeats beats → e.phase ≡ phases.Open (leaving left c).1 → ends_resync acts ≡ true → IsTaught (staying left ds) steps e
 end_leaving [] ds steps beats c acts e sound is stands comes = never_ends acts (ap ends_resync is ∙ end_beats beats) comes
 end_leaving (table ∷ tables) ds steps beats c acts e (out, quiet, flags, sound) is stands comes =
-    end_leaves (staying (table ∷ tables) ds) steps _ beats (without_tables (table ∷ tables) c) acts e out quiet (staying_flags (table ∷ tables) ds steps c.teaching c.shares out quiet flags) refl is stands comes
+    end_leaves (staying (table ∷ tables) ds) steps _ beats (without_tables (table ∷ tables) c) acts e out quiet (staying_flags (table ∷ tables) ds steps c out quiet flags) refl is stands comes
 
-end_ticks : (ds : List Definition) (steps : List (Event × List Action)) (silent : Bool) (phase : Phase) (s e : StandingState) (now : ℕ) (left : List ℕ) (acts : List Action) → s.session.phase ≡ phase → IsKeptIn (ids_of ds) steps s.session.phase → TicksIn silent phase s now left acts e → ends_resync acts ≡ true → IsTaught (staying left ds) steps e.session
+end_ticks : (ds : List Definition) (steps : List (Event × List Action)) (silent : Bool) (phase : Phase) (s e : StandingState) (now : ℕ) (left : List ℕ) (acts : List Action) → s.session.phase ≡ phase → IsKeptIn true (ids_of ds) steps s.session.phase → TicksIn silent phase s now left acts e → ends_resync acts ≡ true → IsTaught (staying left ds) steps e.session
 end_ticks ds steps true phase s e now left acts stands kept (leaves, is, session, paces) comes = never_ends acts (ap ends_resync is) comes
 end_ticks ds steps false (phases.Open c) s e now left acts stands kept (leaves, is, session, paces) comes =
-    end_leaving left ds steps _ c acts e.session (subst (IsKeptIn (ids_of ds) steps) stands kept) is (ap (λ (x : SessionState). x.phase) session) comes
+    end_leaving left ds steps _ c acts e.session (subst (IsKeptIn true (ids_of ds) steps) stands kept) is (ap (λ (x : SessionState). x.phase) session) comes
 end_ticks ds steps false (phases.New hello c) s e now left acts stands kept (leaves, is, same) comes = never_ends acts (ap ends_resync is) comes
 end_ticks ds steps false (phases.Hello greeter bytes c) s e now left acts stands kept (leaves, is, same) comes = never_ends acts (ap ends_resync is) comes
 end_ticks ds steps false phases.Ended s e now left acts stands kept (leaves, is, same) comes = never_ends acts (ap ends_resync is) comes
 
 -- ---- a node that becomes up to date
 
-kept_caught : (ids : List ℕ) (steps : List (Event × List Action)) (left : Bool) (phase : Phase) → IsKeptIn ids steps phase → IsKeptIn ids steps (changed (caught_up_in left) phase)
+kept_caught : (ids : List ℕ) (steps : List (Event × List Action)) (left : Bool) (phase : Phase) → IsKeptIn true ids steps phase → IsKeptIn true ids steps (changed (caught_up_in left) phase)
 kept_caught ids steps left (phases.New hello c) kept = kept
 kept_caught ids steps left (phases.Hello greeter bytes c) kept = kept
 kept_caught ids steps left (phases.Open c) kept = kept
@@ -524,17 +436,17 @@ rest_after ds (At now event acts ∷ steps) = rest_after ds steps
 rest_after ds (Tick now left acts ∷ steps) = rest_after (staying left ds) steps
 rest_after ds (CatchUp ∷ steps) = rest_after ds steps
 
-pub lasts_kept : (steps : List Happening) (ds : List Definition) (before : List (Event × List Action)) (s e : StandingState) → IsKeptIn (ids_of ds) before s.session.phase → Lasts s steps e → IsKeptIn (ids_of (rest_after ds steps)) (before ++ handed steps) e.session.phase
+pub lasts_kept : (steps : List Happening) (ds : List Definition) (before : List (Event × List Action)) (s e : StandingState) → IsKeptIn true (ids_of ds) before s.session.phase → Lasts s steps e → IsKeptIn true (ids_of (rest_after ds steps)) (before ++ handed steps) e.session.phase
 lasts_kept [] ds before s e kept here =
-    subst (λ (xs : List (Event × List Action)). IsKeptIn (ids_of ds) xs e.session.phase) (sym (append-nil before)) (subst (λ (x : StandingState). IsKeptIn (ids_of ds) before x.session.phase) (sym here) kept)
+    subst (λ (xs : List (Event × List Action)). IsKeptIn true (ids_of ds) xs e.session.phase) (sym (append-nil before)) (subst (λ (x : StandingState). IsKeptIn true (ids_of ds) before x.session.phase) (sym here) kept)
 lasts_kept (At now event acts ∷ steps) ds before s e kept (mid, stands, lasts) =
     let grouped : with_step before event acts ++ handed steps ≡ before ++ ((event, acts) ∷ handed steps) = append_assoc before ((event, acts) ∷ []) (handed steps) in
-    subst (λ (xs : List (Event × List Action)). IsKeptIn (ids_of (rest_after ds steps)) xs e.session.phase) grouped
+    subst (λ (xs : List (Event × List Action)). IsKeptIn true (ids_of (rest_after ds steps)) xs e.session.phase) grouped
     (lasts_kept steps ds (with_step before event acts) mid e (kept_stands (ids_of ds) before event s mid now acts kept stands) lasts)
 lasts_kept (Tick now left acts ∷ steps) ds before s e kept (mid, (asked, ticks), lasts) =
     lasts_kept steps (staying left ds) before mid e (kept_ticks ds before _ s.session.phase s mid now left acts refl asked kept ticks) lasts
 lasts_kept (CatchUp ∷ steps) ds before s e kept (mid, caught, lasts) =
-    lasts_kept steps ds before mid e (subst (λ (x : StandingState). IsKeptIn (ids_of ds) before x.session.phase) (sym caught) (kept_caught (ids_of ds) before s.pace.left s.session.phase kept)) lasts
+    lasts_kept steps ds before mid e (subst (λ (x : StandingState). IsKeptIn true (ids_of ds) before x.session.phase) (sym caught) (kept_caught (ids_of ds) before s.pace.left s.session.phase kept)) lasts
 
 rest_and_at : (steps : List Happening) (ds : List Definition) (now : ℕ) (event : Event) (acts : List Action) → rest_after ds (steps ++ (At now event acts ∷ [])) ≡ rest_after ds steps
 rest_and_at [] ds now event acts = refl
@@ -596,11 +508,11 @@ all_or P (CatchUp ∷ steps) ds all = catch_or P steps ds (all_or P steps ds all
 
 -- ---- the law
 
-pub begun_kept : (roster : List Definition) (s : SessionState) → IsBegun roster s → IsKeptIn (ids_of roster) [] s.phase
-begun_kept roster s (inl (hello, up_to_date, is)) = subst (λ (x : SessionState). IsKeptIn (ids_of roster) [] x.phase) (sym is) (shares_begin roster, refl, refl)
-begun_kept roster s (inr (oldest, own, peers, up_to_date, is)) = subst (λ (x : SessionState). IsKeptIn (ids_of roster) [] x.phase) (sym is) (shares_begin roster, refl, refl)
+pub begun_kept : (roster : List Definition) (begun : StandingState) → BeginsToStay roster begun → IsKeptIn true (ids_of roster) [] begun.session.phase
+begun_kept roster begun begins =
+    begun_in (IsKeptIn true (ids_of roster) []) roster begun ((λ hello up_to_date. (shares_begin roster, refl, refl, refl)), (λ own peers up_to_date. (shares_begin roster, refl, refl, refl))) begins
 
-end_happens : (one : Happening) (ds : List Definition) (steps : List Happening) (s e : StandingState) → IsKeptIn (ids_of (rest_after ds steps)) (handed steps) s.session.phase → Happens s one e → ends_resync (acts_of one) ≡ true → IsTaught (rest_after ds (steps ++ (one ∷ []))) (handed (steps ++ (one ∷ []))) e.session
+end_happens : (one : Happening) (ds : List Definition) (steps : List Happening) (s e : StandingState) → IsKeptIn true (ids_of (rest_after ds steps)) (handed steps) s.session.phase → Happens s one e → ends_resync (acts_of one) ≡ true → IsTaught (rest_after ds (steps ++ (one ∷ []))) (handed (steps ++ (one ∷ []))) e.session
 end_happens (At now event acts) ds steps s e kept stands comes =
     subst (λ (xs : List Definition). IsTaught xs (handed (steps ++ (At now event acts ∷ []))) e.session) (sym (rest_and_at steps ds now event acts))
     (subst (λ (hs : List (Event × List Action)). IsTaught (rest_after ds steps) hs e.session) (sym (handed_and_at steps now event acts))
@@ -611,8 +523,7 @@ end_happens (Tick now left acts) ds steps s e kept (asked, ticks) comes =
     (end_ticks (rest_after ds steps) (handed steps) _ s.session.phase s e now left acts refl kept ticks comes))
 end_happens CatchUp ds steps s e kept caught comes = absurd (false≢true comes)
 
-pub ends_taught_or_left : (roster : List Definition) (begun s e : StandingState) (steps : List Happening) (one : Happening) → BeginsToStay roster begun → Lasts begun steps s → Happens s one e → ends_resync (acts_of one) ≡ true → HasNothingOut e.session × AllByRecursion (λ d. (was_left d.id (steps ++ (one ∷ [])) ≡ true) ⊎ HasNothingLeft (handed (steps ++ (one ∷ []))) d.id) roster
-ends_taught_or_left roster begun s e steps one (first, now, begins, is) lasts happens comes =
-    let start : IsKeptIn (ids_of roster) [] begun.session.phase = subst (λ (x : StandingState). IsKeptIn (ids_of roster) [] x.session.phase) (sym is) (begun_kept roster (speaking_v21 first) (begins_v21 roster first begins)) in
-    let taught = end_happens one roster steps s e (lasts_kept steps roster [] begun s start lasts) happens comes in
-    (taught.0, all_or (HasNothingLeft (handed (steps ++ (one ∷ [])))) (steps ++ (one ∷ [])) roster taught.1)
+pub ends_taught_or_left : (roster : List Definition) (begun s e : StandingState) (steps : List Happening) (one : Happening) → BeginsToStay roster begun → Lasts begun steps s → Happens s one e → ends_resync (acts_of one) ≡ true → HasNothingOut e.session × AllByRecursion (λ d. (was_left d.id (steps ++ (one ∷ [])) ≡ true) ⊎ HasNothingLeft kinds.Standing (handed (steps ++ (one ∷ []))) d.id) roster
+ends_taught_or_left roster begun s e steps one begins lasts happens comes =
+    let taught = end_happens one roster steps s e (lasts_kept steps roster [] begun s (begun_kept roster begun begins) lasts) happens comes in
+    (taught.0, all_or (HasNothingLeft kinds.Standing (handed (steps ++ (one ∷ [])))) (steps ++ (one ∷ [])) roster taught.1)

@@ -1,5 +1,5 @@
 -- A session that stays sends resync finished only if no tick left a table.
-use Rattle.std.proofs.Common.{◌≡◌, ℕ, Bool, true, false, not, ◌&&◌, ◌||◌, List, [], ◌∷◌, ◌++◌, Some, None, Option, Ok, Err, Result, refl, sym, ap, ◌∙◌, subst}
+use Rattle.std.proofs.Common.{◌≡◌, ℕ, Bool, true, false, ◌&&◌, ◌||◌, List, [], ◌∷◌, ◌++◌, Some, None, Option, Ok, Err, Result, refl, sym, ap, ◌∙◌, subst}
 use Rattle.std.specs.Prelude.{drop}
 use Rattle.std.specs.List.{list_any}
 use Rattle.std.proofs.lemmas.Bool.{false≢true}
@@ -30,24 +30,20 @@ use Rattle.session_core.specs.declared.pace.Task.{Task}
 use Rattle.session_core.specs.declared.pace.Task.TheVariants as tasks
 use Rattle.session_core.specs.declared.phase.Greeter.{Greeter}
 use Rattle.session_core.specs.declared.phase.Greeter.TheVariants as greeters
-use Rattle.session_core.specs.declared.share.Share.{Share}
 use Rattle.session_core.specs.Phases.{Phase}
 use Rattle.session_core.specs.Phases as phases
 use Rattle.session_core.specs.Acks.{ack_of}
-use Rattle.session_core.specs.Shares.{any_out, all_quiet, is_out, out_set, quiet_set}
+use Rattle.session_core.specs.Shares.{all_quiet, is_out, out_set, quiet_set}
 use Rattle.peers_hello.specs.Lines.{is_same}
 use Rattle.session_core.specs.Actions.{control_text, sends_control, status_text, reopens}
-use Rattle.session_core.specs.Courses.{Course, course_fed, teaching_anew, requested, acknowledged, ack_received, said, message_received, AreReceived, ReceivesAll, table_to_ask, finished}
-use Rattle.session_core.specs.Sessions.{SessionState, going, Concludes, ReceivesBytes, IsWelcomed, Connects, Accepts, Greets, GoesIn, GoesNew, GoesHello, GoesOpen, Turns, HasNothing, FinishesResync, StartsPendingResync, Settles, answer_from, opening, speaking}
+use Rattle.session_core.specs.Courses.{Course, course_fed, is_held, teaching_anew, requested, acknowledged, ack_received, said, message_received, AreReceived, ReceivesAll, table_to_ask, finished}
+use Rattle.session_core.specs.Sessions.{SessionState, going, Concludes, ReceivesBytes, first_word, IsWelcomed, Connects, Accepts, Greets, GoesIn, GoesNew, GoesHello, GoesOpen, Turns, HasNothing, FinishesResync, StartsPendingResync, Settles, opening, speaking}
 use Rattle.session_core.specs.Runs.{is_end, ends_resync}
 use Rattle.session_core.specs.Paces.{Pace, inferred, is_ahead}
-use Rattle.session_core.specs.Standing.{StandingState, changed, teaches, shared, put_off, finished_if, finishing, begun_resync, Does, task_at, TakesTurn, Writes, Stands, without_tables, leaving, any_left, heartbeats, TicksIn, caught_up_in, caught_up, speaking_v21}
-use Rattle.session_core.specs.StandingRuns.{Happening, At, Tick, CatchUp, Happens, Lasts, BeginsToStay, acts_of, handed, leaves_any, is_finish}
-use Rattle.session_core.proofs.BegunToStay.{begins_v21}
-use Rattle.session_core.proofs.ShareLemmas.{ids_of}
+use Rattle.session_core.specs.Standing.{StandingState, changed, finished_if, finishing, begun_resync, Does, task_at, TakesTurn, Writes, Stands, without_tables, leaving, any_left, heartbeats, TicksIn, caught_up_in, caught_up}
+use Rattle.session_core.specs.StandingRuns.{Happening, At, Tick, CatchUp, Happens, Lasts, BeginsToStay, acts_of, leaves_any, is_finish}
 use Rattle.session_core.proofs.EndLemmas.{plain_reopens}
-use Rattle.session_core.proofs.RunLemmas.{IsKeptIn}
-use Rattle.session_core.proofs.StandingEnds.{ends_without, attended_in, end_ack, endless_in, endless_refusal, rest_after, lasts_kept, begun_kept}
+use Rattle.session_core.proofs.StandingEnds.{end_ack, endless_in, endless_refusal}
 
 -- ---- whether this node is up to date
 
@@ -65,7 +61,7 @@ up_requested true c = refl
 up_requested false c = refl
 
 up_said : (c : Course) (control : Control) → (said c control).1.up_to_date ≡ c.up_to_date
-up_said c controls.ResyncRequest = up_requested (any_out c.shares) c
+up_said c controls.ResyncRequest = up_requested (is_held c.stays c.shares) c
 up_said c controls.ResyncFinished = refl
 up_said c controls.ResyncPartial = refl
 up_said c controls.ResyncConfirmed = refl
@@ -116,7 +112,7 @@ up_new b s hello c (events.Settled table settled) acts e up goes = absurd goes
 up_new b s hello c (events.Refused table) acts e up goes = absurd goes
 
 up_welcomed : (b q : Bool) (version : Version) (code : ℕ) (s : SessionState) (c : Course) (rest : List ℕ) (acts : List Action) (e : SessionState) → c.up_to_date ≡ b → IsWelcomed q version code s c rest acts e → IsUp b e.phase
-up_welcomed b true version code s c rest acts e up receives = up_bytes b (speaking version s) (course_fed c rest) (sends_control controls.ResyncRequest ∷ opening version c.shares) acts e up receives
+up_welcomed b true version code s c rest acts e up receives = up_bytes b (speaking version s) (course_fed c rest) (sends_control (first_word c.stays) ∷ opening version c.shares) acts e up receives
 up_welcomed b false version code s c rest acts e up (is, ends) = up_at b e _ ends tt
 
 up_connects : (b : Bool) (version : Version) (status : Status) (s : SessionState) (bytes : List ℕ) (c : Course) (acts : List Action) (e : SessionState) → c.up_to_date ≡ b → Connects version status s bytes c acts e → IsUp b e.phase
@@ -131,7 +127,7 @@ up_accepts b (answers.Refused code used) s greeter bytes c acts e up (is, ends) 
 
 up_greets : (b : Bool) (s : SessionState) (greeter : Greeter) (bytes : List ℕ) (c : Course) (acts : List Action) (e : SessionState) → c.up_to_date ≡ b → Greets s greeter bytes c acts e → IsUp b e.phase
 up_greets b s (greeters.Connects version) bytes c acts e up goes = up_connects b version (status_of bytes) s bytes c acts e up goes
-up_greets b s (greeters.Accepts own peers oldest) bytes c acts e up goes = up_accepts b (answer_from oldest (answer_of own peers bytes)) s (greeters.Accepts own peers oldest) bytes c acts e up goes
+up_greets b s (greeters.Accepts own peers) bytes c acts e up goes = up_accepts b (answer_of own peers bytes) s (greeters.Accepts own peers) bytes c acts e up goes
 
 up_hello : (b : Bool) (s : SessionState) (greeter : Greeter) (bytes : List ℕ) (c : Course) (event : Event) (acts : List Action) (e : SessionState) → c.up_to_date ≡ b → GoesHello s greeter bytes c event acts e → IsUp b e.phase
 up_hello b s greeter bytes c (events.Bytes piece) acts e up goes = up_greets b s greeter (bytes ++ piece) c acts e up goes
@@ -163,7 +159,7 @@ up_starts b true s c acts e up (is, ends) = up_at b e _ ends up
 up_starts b false s c acts e up (is, ends) = up_at b e _ ends up
 
 up_settles : (b : Bool) (settled : Settled) (s : SessionState) (c : Course) (table : ℕ) (acts : List Action) (e : SessionState) → c.up_to_date ≡ b → Settles settled s c table acts e → IsUp b e.phase
-up_settles b settles.All s c table acts e up starts = up_starts b (c.waits && not (any_out (out_set table false c.shares))) s (record c { shares = out_set table false c.shares }) acts e up starts
+up_settles b settles.All s c table acts e up starts = up_starts b _ s (record c { shares = out_set table false c.shares }) acts e up starts
 up_settles b settles.Some s c table acts e up (is, ends) = up_at b e _ ends up
 up_settles b settles.Older s c table acts e up (is, ends) = up_at b e _ ends up
 
@@ -198,12 +194,6 @@ up_finished b false c up = up
 up_finishing : (b : Bool) (c : Course) → c.up_to_date ≡ b → (finishing c).1.up_to_date ≡ b
 up_finishing b c up = up_finished b (c.teaching && all_quiet c.shares) c up
 
-up_off : (b teaching : Bool) (shares : List Share) (phase : Phase) → IsUp b phase → IsUp b (changed (put_off teaching shares) phase)
-up_off b teaching shares (phases.New hello c) up = up
-up_off b teaching shares (phases.Hello greeter bytes c) up = up
-up_off b teaching shares (phases.Open c) up = up
-up_off b teaching shares phases.Ended up = tt
-
 up_does : (b : Bool) (task : Task) (s e : StandingState) (c : Course) (now : ℕ) (acts : List Action) → s.session.phase ≡ phases.Open c → IsUp b s.session.phase → Does task s c now acts e → IsUp b e.session.phase
 up_does b tasks.Copy s e c now acts stands up (goes, paces) = up_in b s.session.phase s.session events.Turn acts e.session up goes
 up_does b tasks.Rest s e c now acts stands up (due, is, same) = subst (λ (x : StandingState). IsUp b x.session.phase) (sym same) up
@@ -223,8 +213,7 @@ up_writes b (phases.Hello greeter bytes c) s e now known acts up writes = absurd
 up_writes b phases.Ended s e now known acts up writes = absurd writes
 
 up_stands : (b : Bool) (event : Event) (s e : StandingState) (now : ℕ) (acts : List Action) → IsUp b s.session.phase → Stands s now event acts e → IsUp b e.session.phase
-up_stands b (events.Bytes bytes) s e now acts up (given, mid, goes, is, session, paces) =
-    up_at b e.session _ session (up_off b (teaches s.session.phase) (shared s.session.phase) mid.phase (up_in b s.session.phase s.session (events.Bytes bytes) given mid up goes))
+up_stands b (events.Bytes bytes) s e now acts up (goes, paces) = up_in b s.session.phase s.session (events.Bytes bytes) acts e.session up goes
 up_stands b events.Turn s e now acts up turns = up_turn b s.session.phase s e now acts refl up turns
 up_stands b (events.Written known) s e now acts up writes = up_writes b s.session.phase s e now known acts up writes
 up_stands b (events.Copied table batch) s e now acts up (goes, paces) = up_in b s.session.phase s.session (events.Copied table batch) acts e.session up goes
@@ -257,7 +246,7 @@ left_writes (phases.Hello greeter bytes c) s e now known acts writes = absurd wr
 left_writes phases.Ended s e now known acts writes = absurd writes
 
 left_stands : (event : Event) (s e : StandingState) (now : ℕ) (acts : List Action) → Stands s now event acts e → e.pace.left ≡ s.pace.left
-left_stands (events.Bytes bytes) s e now acts (given, mid, goes, is, session, paces) = ap (λ (p : Pace). p.left) paces
+left_stands (events.Bytes bytes) s e now acts (goes, paces) = ap (λ (p : Pace). p.left) paces
 left_stands events.Turn s e now acts turns = left_turn s.session.phase s e now acts turns
 left_stands (events.Written known) s e now acts writes = left_writes s.session.phase s e now known acts writes
 left_stands (events.Copied table batch) s e now acts (goes, paces) = ap (λ (p : Pace). p.left) paces
@@ -423,19 +412,18 @@ partial_writes (phases.New hello c) s e now known acts writes = absurd writes
 partial_writes (phases.Hello greeter bytes c) s e now known acts writes = absurd writes
 partial_writes phases.Ended s e now known acts writes = absurd writes
 
-partial_stands : (ds : List Definition) (steps : List (Event × List Action)) (event : Event) (s e : StandingState) (now : ℕ) (acts : List Action) → IsKeptIn (ids_of ds) steps s.session.phase → IsUp false s.session.phase → Stands s now event acts e → list_any is_finish acts ≡ false
-partial_stands ds steps (events.Bytes bytes) s e now acts kept up (given, mid, goes, is, session, paces) =
-    none_finished acts (ap ends_resync is ∙ (ends_without given ∙ (attended_in (ids_of ds) steps s.session.phase s.session bytes given acts mid kept is goes).1))
-partial_stands ds steps events.Turn s e now acts kept up turns = partial_turn s.session.phase s e now acts refl up turns
-partial_stands ds steps (events.Nothing table) s e now acts kept up (goes, paces) = partial_answer s.session.phase s.session table acts e.session up goes
-partial_stands ds steps (events.Written known) s e now acts kept up writes = partial_writes s.session.phase s e now known acts writes
-partial_stands ds steps (events.Refused table) s e now acts kept up (goes, paces) = none_finished acts (endless_in s.session.phase s.session _ acts e.session (endless_refusal (is_ahead table s.pace.progress) table) goes)
-partial_stands ds steps (events.Copied table batch) s e now acts kept up (goes, paces) = none_finished acts (endless_in s.session.phase s.session (events.Copied table batch) acts e.session tt goes)
-partial_stands ds steps events.Opened s e now acts kept up (goes, paces) = none_finished acts (endless_in s.session.phase s.session events.Opened acts e.session tt goes)
-partial_stands ds steps events.End s e now acts kept up (goes, paces) = none_finished acts (endless_in s.session.phase s.session events.End acts e.session tt goes)
-partial_stands ds steps events.ReadFault s e now acts kept up (goes, paces) = none_finished acts (endless_in s.session.phase s.session events.ReadFault acts e.session tt goes)
-partial_stands ds steps events.WriteFault s e now acts kept up (goes, paces) = none_finished acts (endless_in s.session.phase s.session events.WriteFault acts e.session tt goes)
-partial_stands ds steps (events.Settled table settled) s e now acts kept up (goes, paces) = none_finished acts (endless_in s.session.phase s.session (events.Settled table settled) acts e.session tt goes)
+partial_stands : (event : Event) (s e : StandingState) (now : ℕ) (acts : List Action) → IsUp false s.session.phase → Stands s now event acts e → list_any is_finish acts ≡ false
+partial_stands (events.Bytes bytes) s e now acts up (goes, paces) = none_finished acts (endless_in s.session.phase s.session (events.Bytes bytes) acts e.session tt goes)
+partial_stands events.Turn s e now acts up turns = partial_turn s.session.phase s e now acts refl up turns
+partial_stands (events.Nothing table) s e now acts up (goes, paces) = partial_answer s.session.phase s.session table acts e.session up goes
+partial_stands (events.Written known) s e now acts up writes = partial_writes s.session.phase s e now known acts writes
+partial_stands (events.Refused table) s e now acts up (goes, paces) = none_finished acts (endless_in s.session.phase s.session _ acts e.session (endless_refusal (is_ahead table s.pace.progress) table) goes)
+partial_stands (events.Copied table batch) s e now acts up (goes, paces) = none_finished acts (endless_in s.session.phase s.session (events.Copied table batch) acts e.session tt goes)
+partial_stands events.Opened s e now acts up (goes, paces) = none_finished acts (endless_in s.session.phase s.session events.Opened acts e.session tt goes)
+partial_stands events.End s e now acts up (goes, paces) = none_finished acts (endless_in s.session.phase s.session events.End acts e.session tt goes)
+partial_stands events.ReadFault s e now acts up (goes, paces) = none_finished acts (endless_in s.session.phase s.session events.ReadFault acts e.session tt goes)
+partial_stands events.WriteFault s e now acts up (goes, paces) = none_finished acts (endless_in s.session.phase s.session events.WriteFault acts e.session tt goes)
+partial_stands (events.Settled table settled) s e now acts up (goes, paces) = none_finished acts (endless_in s.session.phase s.session (events.Settled table settled) acts e.session tt goes)
 
 beats_finish_none : (b : Bool) → list_any is_finish (heartbeats b) ≡ false
 beats_finish_none true = refl
@@ -456,17 +444,16 @@ partial_ticks false phases.Ended s e now left acts (leaves, is, same) = ap (list
 
 -- ---- the law
 
-none_left_by : (was : Bool) (one : Happening) (ds : List Definition) (steps : List (Event × List Action)) (s e : StandingState) → IsKeptIn (ids_of ds) steps s.session.phase → IsMarked was s → Happens s one e → list_any is_finish (acts_of one) ≡ true → (was || (leaves_any one || false)) ≡ false
-none_left_by was (Tick now left acts) ds steps s e kept marked (asked, ticks) finishes =
+none_left_by : (was : Bool) (one : Happening) (s e : StandingState) → IsMarked was s → Happens s one e → list_any is_finish (acts_of one) ≡ true → (was || (leaves_any one || false)) ≡ false
+none_left_by was (Tick now left acts) s e marked (asked, ticks) finishes =
     absurd (false≢true (sym (partial_ticks _ s.session.phase s e now left acts ticks) ∙ finishes))
-none_left_by was CatchUp ds steps s e kept marked caught finishes = absurd (false≢true finishes)
-none_left_by false (At now event acts) ds steps s e kept marked stands finishes = refl
-none_left_by true (At now event acts) ds steps s e kept marked stands finishes =
-    absurd (false≢true (sym (partial_stands ds steps event s e now acts kept (marked refl).1 stands) ∙ finishes))
+none_left_by was CatchUp s e marked caught finishes = absurd (false≢true finishes)
+none_left_by false (At now event acts) s e marked stands finishes = refl
+none_left_by true (At now event acts) s e marked stands finishes =
+    absurd (false≢true (sym (partial_stands event s e now acts (marked refl).1 stands) ∙ finishes))
 
 pub finished_leaves_none : (roster : List Definition) (begun s e : StandingState) (steps : List Happening) (one : Happening) → BeginsToStay roster begun → Lasts begun steps s → Happens s one e → list_any is_finish (acts_of one) ≡ true → list_any leaves_any (steps ++ (one ∷ [])) ≡ false
-finished_leaves_none roster begun s e steps one (first, now, begins, is) lasts happens finishes =
-    let start : IsKeptIn (ids_of roster) [] begun.session.phase = subst (λ (x : StandingState). IsKeptIn (ids_of roster) [] x.session.phase) (sym is) (begun_kept roster (speaking_v21 first) (begins_v21 roster first begins)) in
+finished_leaves_none roster begun s e steps one begins lasts happens finishes =
     let marked : IsMarked (false || list_any leaves_any steps) s = marked_lasts steps false begun s (λ so. absurd (false≢true so)) lasts in
     list_any-append leaves_any steps (one ∷ [])
-    ∙ none_left_by (list_any leaves_any steps) one (rest_after roster steps) (handed steps) s e (lasts_kept steps roster [] begun s start lasts) marked happens finishes
+    ∙ none_left_by (list_any leaves_any steps) one s e marked happens finishes

@@ -15,9 +15,9 @@ use Rattle.session_core.specs.Phases.{Phase}
 use Rattle.session_core.specs.Phases as phases
 use Rattle.session_core.specs.Shares.{is_out}
 use Rattle.session_core.specs.Courses.{Course, acknowledged, ack_received, is_due}
-use Rattle.session_core.specs.Sessions.{SessionState, in_phase, going, is_asked}
+use Rattle.session_core.specs.Sessions.{SessionState, going, is_asked}
 use Rattle.session_core.specs.Paces.{Pace, has_passed, heartbeat_time, silence_time, renewed, inferred, is_ahead, noted, copied_in, last_number}
-use Rattle.session_core.specs.Standing.{StandingState, is_send, paced, HandsOn, changed, teaches, shared, without_reopens, is_requested, put_off, Does, task_at, TakesTurn, Writes, answer_of_refusal, Stands, leaving, heartbeats, forgetting, any_left, TicksIn, Ticks}
+use Rattle.session_core.specs.Standing.{StandingState, is_send, paced, HandsOn, Does, task_at, TakesTurn, Writes, answer_of_refusal, Stands, leaving, heartbeats, forgetting, any_left, TicksIn, Ticks}
 use Rattle.session_core.proofs.StepIsUnique.{goes_once}
 use Rattle.session_core.proofs.AskedLaws.{asked_where_goes}
 
@@ -49,23 +49,10 @@ once_copied table batch s e end now acts others (goes, paces) (goes_too, paces_t
     let one = goes_once s.session e.session end.session (events.Copied table batch) acts others goes goes_too in
     (one.0, states e end one.1 (same_pace (λ xs. record (paced s.session.phase now (events.Copied table batch) xs s.pace) { progress = copied_in table (last_number batch) now s.pace.progress }) acts others e.pace end.pace one.0 paces paces_too))
 
--- what bytes make of the pace and of the session
-abbrev heard : StandingState → ℕ → List ℕ → List Action → SessionState → Pace
-heard s now bytes given mid = record (paced s.session.phase now (events.Bytes bytes) given s.pace) {
-  requested = s.pace.requested || is_requested (teaches s.session.phase) given mid.phase;
-  progress = noted given s.pace.progress;
-}
-
-abbrev rested : StandingState → SessionState → SessionState
-rested s mid = in_phase mid (changed (put_off (teaches s.session.phase) (shared s.session.phase)) mid.phase)
-
 once_bytes : (bytes : List ℕ) (s e end : StandingState) (now : ℕ) (acts others : List Action) → Stands s now (events.Bytes bytes) acts e → Stands s now (events.Bytes bytes) others end → AreSame acts others e end
-once_bytes bytes s e end now acts others (given, mid, goes, is, session, paces) (given_too, mid_too, goes_too, is_too, session_too, paces_too) =
-    let one = goes_once s.session mid mid_too (events.Bytes bytes) given given_too goes goes_too in
-    let same_session : e.session ≡ end.session = session ∙ (ap (rested s) one.1 ∙ sym session_too) in
-    let same : heard s now bytes given mid ≡ heard s now bytes given_too mid_too =
-    ap (λ (g : List Action). heard s now bytes g mid) one.0 ∙ ap (λ (m : SessionState). heard s now bytes given_too m) one.1 in
-    (is ∙ (ap without_reopens one.0 ∙ sym is_too), states e end same_session (paces ∙ (same ∙ sym paces_too)))
+once_bytes bytes s e end now acts others (goes, paces) (goes_too, paces_too) =
+    let one = goes_once s.session e.session end.session (events.Bytes bytes) acts others goes goes_too in
+    (one.0, states e end one.1 (same_pace (λ xs. record (paced s.session.phase now (events.Bytes bytes) xs s.pace) { progress = noted xs s.pace.progress }) acts others e.pace end.pace one.0 paces paces_too))
 
 once_does : (task : Task) (s e end : StandingState) (c : Course) (now : ℕ) (acts others : List Action) → Does task s c now acts e → Does task s c now others end → AreSame acts others e end
 once_does tasks.Copy s e end c now acts others one other = once_hands events.Turn s e end now acts others one other
@@ -73,7 +60,7 @@ once_does tasks.Rest s e end c now acts others (due, is, same) (due_too, is_too,
 once_does tasks.Begin s e end c now acts others (due, is, session, paces) (due_too, is_too, session_too, paces_too) = (
   is ∙ sym is_too,
   states e end (session ∙ sym session_too)
-      (same_pace (λ xs. record (paced s.session.phase now events.Turn xs s.pace) { reopened = Some now; requested = false }) acts others e.pace end.pace (is ∙ sym is_too) paces paces_too),
+      (same_pace (λ xs. record (paced s.session.phase now events.Turn xs s.pace) { reopened = Some now }) acts others e.pace end.pace (is ∙ sym is_too) paces paces_too),
 )
 
 once_turn : (phase : Phase) (s e end : StandingState) (now : ℕ) (acts others : List Action) → TakesTurn phase s now acts e → TakesTurn phase s now others end → AreSame acts others e end
@@ -172,7 +159,7 @@ asked_refusal (phases.Open c) false table = refl
 asked_refusal phases.Ended b table = refl
 
 asked_event : (event : Event) (s e : StandingState) (now : ℕ) (acts : List Action) → Stands s now event acts e → is_asked s.session.phase event ≡ true
-asked_event (events.Bytes bytes) s e now acts (given, mid, goes, is, session, paces) = asked_where_goes s.session mid (events.Bytes bytes) given goes
+asked_event (events.Bytes bytes) s e now acts (goes, paces) = asked_where_goes s.session e.session (events.Bytes bytes) acts goes
 asked_event events.Turn s e now acts turns = asked_turn s.session.phase s e now acts refl turns
 asked_event (events.Written known) s e now acts writes = asked_writes s.session.phase s e now known acts writes
 asked_event (events.Refused table) s e now acts (goes, paces) =

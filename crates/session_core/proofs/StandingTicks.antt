@@ -68,9 +68,9 @@ writes_again (phases.Hello greeter bytes c) s e now x known acts writes = absurd
 writes_again phases.Ended s e now x known acts writes = absurd writes
 
 stands_again : (event : Event) (s e : StandingState) (now x : ℕ) (acts : List Action) → Stands s now event acts e → Again s now event acts e x
-stands_again (events.Bytes bytes) s e now x acts (given, mid, goes, is, session, pace) =
-    let y : ℕ = renewed (sends (events.Bytes bytes) given) now x in
-    (y, (given, mid, goes, is, session, ap (λ (p : Pace). (resent y (state_with e.session p)).pace) pace))
+stands_again (events.Bytes bytes) s e now x acts (goes, pace) =
+    let y : ℕ = renewed (sends (events.Bytes bytes) acts) now x in
+    (y, (goes, ap (λ (p : Pace). (resent y (state_with e.session p)).pace) pace))
 stands_again events.Turn s e now x acts turns = turn_again s.session.phase s e now x acts turns
 stands_again (events.Copied table batch) s e now x acts (goes, pace) =
     let y : ℕ = renewed (sends (events.Copied table batch) acts) now x in

@@ -15,27 +15,12 @@ use Rattle.session_core.specs.Shares.{any_out}
 use Rattle.session_core.specs.Courses.{Course, table_to_ask}
 use Rattle.session_core.specs.Sessions.{SessionState}
 use Rattle.session_core.specs.Paces.{Pace, renewed, has_passed, heartbeat_time, silence_time, push_time, is_rested, awaits_names, is_ahead}
-use Rattle.session_core.specs.Standing.{StandingState, is_open, sends, is_send, without_reopens, HandsOn, Does, task_at, TakesTurn, Writes, answer_of_refusal, Stands, TicksIn, Ticks}
+use Rattle.session_core.specs.Standing.{StandingState, is_open, sends, is_send, HandsOn, Does, task_at, TakesTurn, Writes, answer_of_refusal, Stands, TicksIn, Ticks}
 use Rattle.session_core.specs.StandingRuns.{Happening, At, Tick, CatchUp, Happens, Lasts, is_heartbeat}
 use Rattle.session_core.specs.StandingSteps.{IsSince, SendsAt, sent_by}
 use Rattle.session_core.proofs.TickGives.{tick_beats_if}
 
 -- ---- when bytes were last sent
-
-or_same : (a b c : Bool) → b ≡ c → (a || b) ≡ (a || c)
-or_same a b c same = ap (λ (x : Bool). a || x) same
-
--- the reopenings that are left to a turn send nothing
-sends_without : (acts : List Action) → list_any is_send (without_reopens acts) ≡ list_any is_send acts
-sends_without [] = refl
-sends_without (actions.Send bytes ∷ acts) = refl
-sends_without (actions.Ack table n ∷ acts) = sends_without acts
-sends_without (actions.Learn u ∷ acts) = sends_without acts
-sends_without (actions.Reopen table ∷ acts) = sends_without acts
-sends_without (actions.Copy table kind ∷ acts) = sends_without acts
-sends_without (actions.Teach batch ∷ acts) = sends_without acts
-sends_without (actions.Part kind ∷ acts) = sends_without acts
-sends_without (actions.Close ∷ acts) = sends_without acts
 
 -- no action, so nothing sent
 none_sent : (event : Event) (now before : ℕ) (acts : List Action) → sends event [] ≡ false → acts ≡ [] → renewed (sends event acts) now before ≡ before
@@ -66,9 +51,7 @@ sent_refused true s e now table acts (goes, paces) = ap (λ (p : Pace). p.sent) 
 sent_refused false s e now table acts (goes, paces) = ap (λ (p : Pace). p.sent) paces
 
 sent_stands : (event : Event) (s e : StandingState) (now : ℕ) (acts : List Action) → Stands s now event acts e → e.pace.sent ≡ renewed (sends event acts) now s.pace.sent
-sent_stands (events.Bytes bytes) s e now acts (given, mid, goes, is, session, paces) =
-    let same : list_any is_send given ≡ list_any is_send acts = sym (ap (list_any is_send) is ∙ sends_without given) in
-    ap (λ (p : Pace). p.sent) paces ∙ ap (λ (b : Bool). renewed b now s.pace.sent) same
+sent_stands (events.Bytes bytes) s e now acts (goes, paces) = ap (λ (p : Pace). p.sent) paces
 sent_stands events.Turn s e now acts turns = sent_turn s.session.phase s e now acts turns
 sent_stands (events.Written known) s e now acts writes = sent_writes s.session.phase s e now known acts writes
 sent_stands (events.Copied table batch) s e now acts (goes, paces) = ap (λ (p : Pace). p.sent) paces
@@ -213,14 +196,14 @@ not_silent s t u steps m n d left acts ticks opened lasts since soon =
 -- ---- resyncs are apart
 
 -- a resync begins, and the last one began long enough ago; or none does
-abbrev pub IsRestedOr : StandingState → ℕ → StandingState → Type 0
+abbrev IsRestedOr : StandingState → ℕ → StandingState → Type 0
 IsRestedOr s now e = (e.pace.reopened ≡ s.pace.reopened) ⊎ ((is_rested s.pace.reopened now ≡ true) × (e.pace.reopened ≡ Some now))
 
 never_begins : (b : Bool) → cond b tasks.Copy tasks.Rest ≡ tasks.Begin → ⊥
 never_begins true is = cc
 never_begins false is = cc
 
-pub begins_rested : (requested rested out may : Bool) → cond (requested && rested) (cond out tasks.Rest tasks.Begin) (cond may tasks.Copy tasks.Rest) ≡ tasks.Begin → rested ≡ true
+pub begins_rested : (waits rested out may : Bool) → cond (waits && rested) (cond out tasks.Rest tasks.Begin) (cond may tasks.Copy tasks.Rest) ≡ tasks.Begin → rested ≡ true
 begins_rested true true out may is = refl
 begins_rested true false out may is = absurd (never_begins may is)
 begins_rested false rested out may is = absurd (never_begins may is)
@@ -229,7 +212,7 @@ rested_does : (task : Task) (s e : StandingState) (c : Course) (now : ℕ) (acts
 rested_does tasks.Copy s e c now acts is (goes, paces) = inl (ap (λ (p : Pace). p.reopened) paces)
 rested_does tasks.Rest s e c now acts is (due, none, same) = inl (ap (λ (x : StandingState). x.pace.reopened) same)
 rested_does tasks.Begin s e c now acts is (due, begun, session, paces) = inr (
-  begins_rested s.pace.requested (is_rested s.pace.reopened now) (any_out c.shares) ((c.teaching || has_passed push_time s.pace.opened now) && not (awaits_names (table_to_ask c) s.pace.progress c.shares)) is,
+  begins_rested c.waits (is_rested s.pace.reopened now) (any_out c.shares) ((c.teaching || has_passed push_time s.pace.opened now) && not (awaits_names (table_to_ask c) s.pace.progress c.shares)) is,
   ap (λ (p : Pace). p.reopened) paces,
 )
 
@@ -245,8 +228,8 @@ rested_writes (phases.New hello c) s e now known acts writes = absurd writes
 rested_writes (phases.Hello greeter bytes c) s e now known acts writes = absurd writes
 rested_writes phases.Ended s e now known acts writes = absurd writes
 
-pub rested_stands : (event : Event) (s e : StandingState) (now : ℕ) (acts : List Action) → Stands s now event acts e → IsRestedOr s now e
-rested_stands (events.Bytes bytes) s e now acts (given, mid, goes, is, session, paces) = inl (ap (λ (p : Pace). p.reopened) paces)
+rested_stands : (event : Event) (s e : StandingState) (now : ℕ) (acts : List Action) → Stands s now event acts e → IsRestedOr s now e
+rested_stands (events.Bytes bytes) s e now acts (goes, paces) = inl (ap (λ (p : Pace). p.reopened) paces)
 rested_stands events.Turn s e now acts turns = rested_turn s.session.phase s e now acts turns
 rested_stands (events.Written known) s e now acts writes = rested_writes s.session.phase s e now known acts writes
 rested_stands (events.Copied table batch) s e now acts (goes, paces) = inl (ap (λ (p : Pace). p.reopened) paces)

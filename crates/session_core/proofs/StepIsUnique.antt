@@ -16,7 +16,6 @@ use Rattle.learner.specs.declared.taken.Taken.{Taken}
 use Rattle.learner.specs.declared.taken.Taken.TheVariants as taken
 use Rattle.learner.specs.Intake.{Taking, IntakeNext}
 use Rattle.learner.proofs.OneOutcome.{intake_next_once}
-use Rattle.peers_msg.specs.declared.control.Control.TheVariants as controls
 use Rattle.session_core.specs.declared.action.Action.{Action}
 use Rattle.session_core.specs.declared.action.Action.TheVariants as actions
 use Rattle.session_core.specs.Actions.{sends_control, status_text}
@@ -30,7 +29,7 @@ use Rattle.session_core.specs.declared.phase.Greeter.TheVariants as greeters
 use Rattle.session_core.specs.Phases.{Phase}
 use Rattle.session_core.specs.Phases as phases
 use Rattle.session_core.specs.Courses.{Course, AreReceived, Answered, Receives, ReceivesAll, IsHalted, acks_sent, course_fed, message_received, is_failure, table_to_ask}
-use Rattle.session_core.specs.Sessions.{SessionState, Accepts, Concludes, Connects, FinishesResync, Goes, GoesHello, GoesIn, GoesNew, GoesOpen, Greets, HasNothing, IsCopied, IsWelcomed, ReceivesBytes, Settles, StartsPendingResync, Turns, confirmed_by, ended, going, answer_from, opening, speaking}
+use Rattle.session_core.specs.Sessions.{SessionState, Accepts, Concludes, Connects, FinishesResync, Goes, GoesHello, GoesIn, GoesNew, GoesOpen, Greets, HasNothing, IsCopied, IsWelcomed, ReceivesBytes, Settles, StartsPendingResync, Turns, confirmed_by, ended, going, first_word, opening, speaking}
 
 -- two results that equal the same result are equal
 both : {given acts others : List Action} → {then e end : SessionState} → (acts ≡ given) × (e ≡ then) → (others ≡ given) × (end ≡ then) → (acts ≡ others) × (e ≡ end)
@@ -175,7 +174,7 @@ new_once s e end hello c (events.Settled table settled) acts others p q = absurd
 new_once s e end hello c (events.Refused table) acts others p q = absurd p
 
 welcomed_once : (welcome : Bool) (version : Version) (code : ℕ) (s e end : SessionState) (c : Course) (rest : List ℕ) (acts others : List Action) → IsWelcomed welcome version code s c rest acts e → IsWelcomed welcome version code s c rest others end → (acts ≡ others) × (e ≡ end)
-welcomed_once true version code s e end c rest acts others p q = bytes_once (speaking version s) e end (course_fed c rest) (sends_control controls.ResyncRequest ∷ opening version c.shares) acts others p q
+welcomed_once true version code s e end c rest acts others p q = bytes_once (speaking version s) e end (course_fed c rest) (sends_control (first_word c.stays) ∷ opening version c.shares) acts others p q
 welcomed_once false version code s e end c rest acts others p q = both p q
 
 connects_once : (version : Version) (status : Status) (s e end : SessionState) (bytes : List ℕ) (c : Course) (acts others : List Action) → Connects version status s bytes c acts e → Connects version status s bytes c others end → (acts ≡ others) × (e ≡ end)
@@ -190,7 +189,7 @@ accepts_once (answers.Refused code used) s e end greeter bytes c acts others p q
 
 greets_once : (greeter : Greeter) (s e end : SessionState) (bytes : List ℕ) (c : Course) (acts others : List Action) → Greets s greeter bytes c acts e → Greets s greeter bytes c others end → (acts ≡ others) × (e ≡ end)
 greets_once (greeters.Connects version) s e end bytes c acts others p q = connects_once version (status_of bytes) s e end bytes c acts others p q
-greets_once (greeters.Accepts own peers oldest) s e end bytes c acts others p q = accepts_once (answer_from oldest (answer_of own peers bytes)) s e end _ bytes c acts others p q
+greets_once (greeters.Accepts own peers) s e end bytes c acts others p q = accepts_once (answer_of own peers bytes) s e end _ bytes c acts others p q
 
 hello_once : (s e end : SessionState) (greeter : Greeter) (bytes : List ℕ) (c : Course) (event : Event) (acts others : List Action) → GoesHello s greeter bytes c event acts e → GoesHello s greeter bytes c event others end → (acts ≡ others) × (e ≡ end)
 hello_once s e end greeter bytes c (events.Bytes piece) acts others p q = greets_once greeter s e end (bytes ++ piece) c acts others p q

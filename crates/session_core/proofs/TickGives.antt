@@ -67,10 +67,6 @@ closes_in false (phases.New hello c) s e now left acts (leaves, is, same) = ap (
 closes_in false (phases.Hello greeter bytes c) s e now left acts (leaves, is, same) = ap (list_any is_close) is
 closes_in false phases.Ended s e now left acts (leaves, is, same) = ap (list_any is_close) is
 
-and-no : (b : Bool) → (b && false) ≡ false
-and-no true = refl
-and-no false = refl
-
 beats_in : (silent : Bool) (phase : Phase) (s e : StandingState) (now : ℕ) (left : List ℕ) (acts : List Action) → TicksIn silent phase s now left acts e → list_any is_heartbeat acts ≡ (not silent && (is_open phase && has_passed heartbeat_time s.pace.sent now))
 beats_in true phase s e now left acts (leaves, is, session, pace) = ap (list_any is_heartbeat) is
 beats_in false (phases.Open c) s e now left acts (leaves, is, session, pace) =

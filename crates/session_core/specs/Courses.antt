@@ -1,6 +1,6 @@
 -- The course of an open session, and how each message of the remote peer changes it (HAProxy, doc/peers-v2.0.txt,
 -- "Control Messages"; the rules of a resync are this node's own).
-use Rattle.std.specs.Prelude.{◌≡◌, ◌≢◌, ℕ, Bool, true, false, ◌==◌, List, [], ◌∷◌, ◌++◌, Option, Some, None, Result, Ok, Err, if◌then◌else◌}
+use Rattle.std.specs.Prelude.{◌≡◌, ◌≢◌, ℕ, Bool, true, false, not, ◌==◌, ◌&&◌, ◌||◌, List, [], ◌∷◌, ◌++◌, Option, Some, None, Result, Ok, Err, if◌then◌else◌}
 use Rattle.table_types.specs.Tables.{Definition}
 use Rattle.table_types.specs.declared.copies.CopyKind.{CopyKind}
 use Rattle.table_types.specs.declared.copies.CopyKind.TheVariants as kinds
@@ -25,10 +25,11 @@ use Rattle.session_core.specs.Acks.{ack_of}
 use Rattle.session_core.specs.Shares.{any_out, is_out, shares_of, unquieted, next_table}
 use Rattle.session_core.specs.Actions.{reopens, sends_control, sends_acks}
 
--- What was received from the remote peer; whether this node is up to date itself; the tables, in roster order; the
--- table that was last asked for a batch; whether the remote peer is being taught every row; whether its resync request
--- is deferred; and the actions not answered yet, in the order in which their answers are due.
+-- Whether the session stays for as long as its connection does; what was received from the remote peer; whether this node is up to
+-- date itself; the tables, in roster order; the table that was last asked for a batch; whether the remote peer is being taught every
+-- row; whether its resync request is deferred; and the actions not answered yet, in the order in which their answers are due.
 pub record Course : Type 0 where
+  pub stays : Bool
   pub intake : Taking
   pub up_to_date : Bool
   pub shares : List Share
@@ -39,7 +40,11 @@ pub record Course : Type 0 where
 
 -- before any message
 abbrev pub course_begun : List Definition → Bool → Course
-course_begun roster up_to_date = record { intake = begun roster; up_to_date = up_to_date; shares = shares_of roster; asked = None; teaching = false; waits = false; due = [] }
+course_begun roster up_to_date = record { stays = false; intake = begun roster; up_to_date = up_to_date; shares = shares_of roster; asked = None; teaching = false; waits = false; due = [] }
+
+-- the session stays
+abbrev pub staying : Course → Course
+staying c = record c { stays = true }
 
 -- bytes of messages are received
 abbrev pub course_fed : Course → List ℕ → Course
@@ -51,8 +56,11 @@ teaching_anew c = record c { shares = unquieted c.shares; teaching = true; waits
 
 -- ---- one message
 
--- A resync request is deferred while a batch is outstanding. Otherwise the session is reopened in each table, and
--- teaching begins.
+-- what defers a resync request: an outstanding batch; or that the session stays, which leaves it to a turn
+abbrev pub is_held : Bool → List Share → Bool
+is_held stays ss = stays || any_out ss
+
+-- A deferred resync request waits. Otherwise the session is reopened in each table, and teaching begins.
 abbrev pub requested : Bool → Course → List Action × Course
 requested true c = ([], record c { waits = true })
 requested false c = (reopens c.shares, teaching_anew c)
@@ -69,7 +77,7 @@ ack_received c None = ([], c)
 
 -- this node answers the end of a resync with resync confirmed, whether it requested the resync or not
 abbrev pub said : Course → Control → List Action × Course
-said c controls.ResyncRequest = requested (any_out c.shares) c
+said c controls.ResyncRequest = requested (is_held c.stays c.shares) c
 said c controls.ResyncFinished = (sends_control controls.ResyncConfirmed ∷ [], c)
 said c controls.ResyncPartial = (sends_control controls.ResyncConfirmed ∷ [], c)
 said c controls.ResyncConfirmed = ([], c)
@@ -129,14 +137,15 @@ acks_given c = sends_acks (due_acks c.intake)
 
 -- ---- a turn
 
--- this node's own rows, or every row in a resync
-abbrev pub kind_of : Bool → CopyKind
-kind_of true = kinds.Resync
-kind_of false = kinds.Push
+-- This node's own rows; or every row in a resync, which copies up to the session's bound in the table if the session stays.
+abbrev pub kind_of : Bool → Bool → CopyKind
+kind_of stays false = kinds.Push
+kind_of false true = kinds.Resync
+kind_of true true = kinds.Standing
 
--- the table that a turn asks for a batch; none while a resync request is deferred
+-- the table that a turn asks for a batch; none while a resync request is deferred, unless the session stays
 abbrev pub table_to_ask : Course → Option ℕ
-table_to_ask c = if c.waits then None else next_table c.teaching c.asked c.shares
+table_to_ask c = if c.waits && not c.stays then None else next_table c.teaching c.asked c.shares
 
 -- ---- answers
 

@@ -128,19 +128,18 @@ awaits_names (Some table) ps ss = stores_names table ps && list_any (may_lose_na
 -- ---- the pace
 
 -- When this node last sent bytes, when it last received some, when the session opened, and when it last began a resync;
--- whether a resync request waits; whether a table was left; and what was taught and acknowledged of each table. A session
+-- whether a table was left; and what was taught and acknowledged of each table. A session
 -- that begins to stay counts from that moment.
 pub record Pace : Type 0 where
   pub sent : ℕ
   pub heard : ℕ
   pub opened : ℕ
   pub reopened : Option ℕ
-  pub requested : Bool
   pub left : Bool
   pub progress : List Progress
 
 abbrev pub pace_at : ℕ → List Definition → Pace
-pace_at now roster = record { sent = now; heard = now; opened = now; reopened = None; requested = false; left = false; progress = progress_of now roster }
+pace_at now roster = record { sent = now; heard = now; opened = now; reopened = None; left = false; progress = progress_of now roster }
 
 -- `now`, if so; otherwise the moment before
 abbrev pub renewed : Bool → ℕ → ℕ → ℕ

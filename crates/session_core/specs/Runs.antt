@@ -2,7 +2,7 @@
 use Rattle.std.specs.Prelude.{◌≡◌, ◌⊎◌, ℕ, Bool, false, ◌==◌, ◌||◌, List, [], ◌∷◌, ◌++◌, Option, Some, None}
 use Rattle.std.specs.List.{list_any, AllByRecursion}
 use Rattle.table_types.specs.Tables.{Definition}
-use Rattle.table_types.specs.declared.copies.CopyKind.TheVariants as kinds
+use Rattle.table_types.specs.declared.copies.CopyKind.{CopyKind}
 use Rattle.table_types.specs.declared.version.Version.{Version}
 use Rattle.peers_msg.specs.Integers.{IsBytes}
 use Rattle.peers_msg.specs.declared.control.Control.TheVariants as controls
@@ -18,7 +18,7 @@ use Rattle.session_core.specs.Phases as phases
 use Rattle.session_core.specs.Actions.{control_text, confirms}
 use Rattle.session_core.specs.Shares.{any_out}
 use Rattle.session_core.specs.Courses.{Course}
-use Rattle.session_core.specs.Sessions.{SessionState, Goes, connecting, accepting_from, falls_back}
+use Rattle.session_core.specs.Sessions.{SessionState, Goes, connecting, accepting, falls_back}
 
 -- the events of a run in order, each with the actions that it asked for
 abbrev pub Runs : SessionState → List (Event × List Action) → SessionState → Type 0
@@ -29,7 +29,7 @@ Runs s (step ∷ steps) e = (mid : SessionState) × Goes s step.0 step.1 mid × 
 abbrev pub IsBegun : List Definition → SessionState → Type 0
 IsBegun roster s =
     ((hello : Hello) × (up_to_date : Bool) × (s ≡ connecting hello roster up_to_date))
-    ⊎ ((oldest : Version) × (own : List ℕ) × (peers : List (List ℕ)) × (up_to_date : Bool) × (s ≡ accepting_from oldest own peers roster up_to_date))
+    ⊎ ((own : List ℕ) × (peers : List (List ℕ)) × (up_to_date : Bool) × (s ≡ accepting own peers roster up_to_date))
 
 -- an action that sends resync finished or resync partial
 abbrev pub is_end : Action → Bool
@@ -59,14 +59,14 @@ reopened table acts = list_any (is_reopen_of table) acts
 abbrev pub IsLeft : ℕ → List Action → Type 0
 IsLeft table acts = (copies table acts ≡ false) × (reopened table acts ≡ false)
 
--- The last copy from `table` belonged to a resync and found nothing to teach. Since then the table was neither copied
+-- The last copy from `table` was of this kind, that of a resync, and found nothing to teach. Since then the table was neither copied
 -- from nor reopened, so the copy belonged to the resync under way.
-abbrev pub HasNothingLeft : List (Event × List Action) → ℕ → Type 0
-HasNothingLeft steps table =
+abbrev pub HasNothingLeft : CopyKind → List (Event × List Action) → ℕ → Type 0
+HasNothingLeft kind steps table =
     (before : List (Event × List Action))
     × (given : List Action)
     × (since : List (Event × List Action))
-    × (steps ≡ before ++ ((events.Turn, actions.Copy table kinds.Resync ∷ []) ∷ ((events.Nothing table, given) ∷ since)))
+    × (steps ≡ before ++ ((events.Turn, actions.Copy table kind ∷ []) ∷ ((events.Nothing table, given) ∷ since)))
     × (reopened table given ≡ false)
     × AllByRecursion (λ step. IsLeft table step.1) since
 

@@ -7,6 +7,7 @@ use Rattle.table_types.specs.declared.copies.Settled.{Settled}
 use Rattle.table_types.specs.declared.copies.Settled.TheVariants as settles
 use Rattle.peers_msg.specs.declared.fault.Breach.{Breach}
 use Rattle.peers_msg.specs.declared.fault.Breach.TheVariants as breaches
+use Rattle.peers_msg.specs.declared.control.Control.{Control}
 use Rattle.peers_msg.specs.declared.control.Control.TheVariants as controls
 use Rattle.peers_msg.specs.declared.control.ErrorKind.{ErrorKind}
 use Rattle.peers_msg.specs.declared.control.ErrorKind.TheVariants as kinds
@@ -44,9 +45,9 @@ use Rattle.session_core.specs.declared.machine.Machine.{Machine}
 use Rattle.session_core.specs.declared.handshake.Handshake.{Handshake}
 use Rattle.session_core.specs.declared.handshake.Handshake.TheVariants as handshakes
 use Rattle.session_core.specs.declared.share.Share.{Share}
-use Rattle.session_core.specs.Shares.{any_out, all_quiet, out_set, quiet_set}
+use Rattle.session_core.specs.Shares.{all_quiet, out_set, quiet_set}
 use Rattle.session_core.specs.Actions.{sends_control, status_text, reopens, confirms}
-use Rattle.session_core.specs.Courses.{Course, course_begun, course_fed, teaching_anew, ReceivesAll, acks_sent, acks_given, kind_of, table_to_ask, is_due, none_due, Answered, finished, state_of_course}
+use Rattle.session_core.specs.Courses.{Course, course_begun, course_fed, is_held, teaching_anew, ReceivesAll, acks_sent, acks_given, kind_of, table_to_ask, is_due, none_due, Answered, finished, state_of_course}
 
 -- A session's phase; what it knows of the remote peer as a learner; the fault in the remote peer's messages that ended
 -- it, if any; whether it sent resync confirmed; the version that both peers speak, once the hello is done; and whether it
@@ -91,13 +92,9 @@ begins_in phase roster = record { phase = phase; known = fresh_of roster; fault 
 abbrev pub connecting : Hello → List Definition → Bool → SessionState
 connecting hello roster up_to_date = begins_in (phases.New hello (course_begun roster up_to_date)) roster
 
--- the side that accepts the connection: this node is `own`, and accepts `peers` of version `oldest` and later
-abbrev pub accepting_from : Version → List ℕ → List (List ℕ) → List Definition → Bool → SessionState
-accepting_from oldest own peers roster up_to_date = begins_in (phases.Hello (greeters.Accepts own peers oldest) [] (course_begun roster up_to_date)) roster
-
--- the same, of every version
+-- the side that accepts the connection: this node is `own`, and accepts `peers`
 abbrev pub accepting : List ℕ → List (List ℕ) → List Definition → Bool → SessionState
-accepting own peers roster up_to_date = accepting_from versions.V20 own peers roster up_to_date
+accepting own peers roster up_to_date = begins_in (phases.Hello (greeters.Accepts own peers) [] (course_begun roster up_to_date)) roster
 
 -- ---- what several phases share
 
@@ -177,9 +174,14 @@ falls_back versions.V21 code = code == 502
 abbrev pub falling_back : Bool → SessionState → SessionState
 falling_back falls s = record s { fell_back = falls || s.fell_back }
 
--- The session, which said this version, answers status 200 with a resync request. Any other status closes.
+-- the first message of a session that connects: it requests a resync; or, if it stays, sends a heartbeat, and requests none by itself
+abbrev pub first_word : Bool → Control
+first_word false = controls.ResyncRequest
+first_word true = controls.Heartbeat
+
+-- The session, which said this version, answers status 200 with its first message. Any other status closes.
 abbrev pub IsWelcomed : Bool → Version → ℕ → SessionState → Course → List ℕ → List Action → SessionState → Type 0
-IsWelcomed true version code s c rest acts e = BecomesReady version (sends_control controls.ResyncRequest) s c rest acts e
+IsWelcomed true version code s c rest acts e = BecomesReady version (sends_control (first_word c.stays)) s c rest acts e
 IsWelcomed false version code s c rest acts e = Closes (falling_back (falls_back version code) s) acts e
 
 -- by the status; the bytes are kept until its line is complete
@@ -187,16 +189,6 @@ abbrev pub Connects : Version → Status → SessionState → List ℕ → Cours
 Connects version statuses.More s bytes c acts e = Stays s (phases.Hello (greeters.Connects version) bytes c) acts e
 Connects version (statuses.Code code used) s bytes c acts e = IsWelcomed (code == 200) version code s c (drop used bytes) acts e
 Connects version (statuses.Other used) s bytes c acts e = Closes s acts e
-
--- A peer that speaks version 2.1 alone answers a hello of version 2.0 with 502, as it does one of an unknown version.
-abbrev pub only_v21 : Answer → Answer
-only_v21 (answers.Accepted name versions.V20 used) = answers.Refused 502 used
-only_v21 answer = answer
-
--- the answer of a peer that speaks version `oldest` and later
-abbrev pub answer_from : Version → Answer → Answer
-answer_from versions.V20 answer = answer
-answer_from versions.V21 answer = only_v21 answer
 
 -- the session answers an accepted hello with status 200, and the bytes after it are messages; any other with its code
 abbrev pub Accepts : Answer → SessionState → Greeter → List ℕ → Course → List Action → SessionState → Type 0
@@ -207,7 +199,7 @@ Accepts (answers.Refused code used) s greeter bytes c acts e = (acts ≡ actions
 -- by this node's side of the handshake, and the bytes so far
 abbrev pub Greets : SessionState → Greeter → List ℕ → Course → List Action → SessionState → Type 0
 Greets s (greeters.Connects version) bytes c acts e = Connects version (status_of bytes) s bytes c acts e
-Greets s (greeters.Accepts own peers oldest) bytes c acts e = Accepts (answer_from oldest (answer_of own peers bytes)) s (greeters.Accepts own peers oldest) bytes c acts e
+Greets s (greeters.Accepts own peers) bytes c acts e = Accepts (answer_of own peers bytes) s (greeters.Accepts own peers) bytes c acts e
 
 -- what follows in a session whose bytes so far amount to this
 abbrev pub Follows : Handshake → SessionState → Greeter → List ℕ → Course → List Action → SessionState → Type 0
@@ -230,7 +222,7 @@ GoesHello s greeter bytes c event acts e = ⊥
 abbrev pub Turns : Option ℕ → SessionState → Course → List Action → SessionState → Type 0
 Turns None s c acts e = Stays s (phases.Open c) acts e
 Turns (Some table) s c acts e =
-    (acts ≡ actions.Copy table (kind_of c.teaching) ∷ [])
+    (acts ≡ actions.Copy table (kind_of c.stays c.teaching) ∷ [])
     × (e ≡ going s (record c { asked = Some table; due = dues.Copy table ∷ [] }))
 
 -- a batch was copied: it is outstanding, and its lesson is to be written
@@ -249,14 +241,14 @@ abbrev pub HasNothing : Bool → SessionState → Course → ℕ → List Action
 HasNothing true s c table acts e = FinishesResync (all_quiet (quiet_set table c.shares)) s (record c { shares = quiet_set table c.shares }) acts e
 HasNothing false s c table acts e = Stays s (phases.Open c) acts e
 
--- a deferred resync begins once no batch is outstanding
+-- a deferred resync begins once nothing defers it: no batch is outstanding, and the session doesn't stay
 abbrev pub StartsPendingResync : Bool → SessionState → Course → List Action → SessionState → Type 0
 StartsPendingResync true s c acts e = (acts ≡ reopens c.shares) × (e ≡ going s (teaching_anew c))
 StartsPendingResync false s c acts e = Stays s (phases.Open c) acts e
 
 -- a batch that is acknowledged to its end is no longer outstanding
 abbrev pub Settles : Settled → SessionState → Course → ℕ → List Action → SessionState → Type 0
-Settles settles.All s c table acts e = StartsPendingResync (c.waits && not (any_out (out_set table false c.shares))) s (record c { shares = out_set table false c.shares }) acts e
+Settles settles.All s c table acts e = StartsPendingResync (c.waits && not (is_held c.stays (out_set table false c.shares))) s (record c { shares = out_set table false c.shares }) acts e
 Settles settled s c table acts e = Stays s (phases.Open c) acts e
 
 abbrev pub GoesOpen : SessionState → Course → Event → List Action → SessionState → Type 0

@@ -3,14 +3,12 @@
 use Rattle.std.specs.Prelude.{◌≡◌, ℕ, Bool, true, false, not, ◌==◌, ◌&&◌, ◌||◌, List, [], ◌∷◌, ◌++◌, filter, Some, if◌then◌else◌}
 use Rattle.std.specs.List.{list_any}
 use Rattle.table_types.specs.declared.copies.Settled.TheVariants as settles
-use Rattle.table_types.specs.declared.version.Version.TheVariants as versions
 use Rattle.peers_msg.specs.declared.control.Control.TheVariants as controls
 use Rattle.known_state.specs.Known.{KnownState, without_names}
 use Rattle.session_core.specs.declared.action.Action.{Action}
 use Rattle.session_core.specs.declared.action.Action.TheVariants as actions
 use Rattle.session_core.specs.declared.event.Event.{Event}
 use Rattle.session_core.specs.declared.event.Event.TheVariants as events
-use Rattle.session_core.specs.declared.phase.Greeter.TheVariants as greeters
 use Rattle.session_core.specs.declared.stay.Stay.{Stay}
 use Rattle.session_core.specs.declared.pace.Task.{Task}
 use Rattle.session_core.specs.declared.pace.Task.TheVariants as tasks
@@ -19,7 +17,7 @@ use Rattle.session_core.specs.Phases.{Phase}
 use Rattle.session_core.specs.Phases as phases
 use Rattle.session_core.specs.Shares.{any_out, all_quiet}
 use Rattle.session_core.specs.Actions.{reopens, sends_control}
-use Rattle.session_core.specs.Courses.{Course, teaching_anew, ack_received, finished, table_to_ask}
+use Rattle.session_core.specs.Courses.{Course, staying, teaching_anew, ack_received, finished, table_to_ask}
 use Rattle.session_core.specs.Sessions.{SessionState, Goes, seen, in_phase, going, ended, is_asked}
 use Rattle.session_core.specs.Paces.{Pace, heartbeat_time, silence_time, push_time, has_passed, pace_at, renewed, is_rested, copied_in, last_number, noted, is_ahead, inferred, tables_to_leave, awaits_names}
 
@@ -30,20 +28,16 @@ pub record StandingState : Type 0 where
 abbrev pub stood : Stay → StandingState
 stood t = record { session = seen t.machine; pace = t.pace }
 
--- What has a session that stays speak version 2.1 alone, so that no hello has it reopen its tables: it says that version in
--- its own hello, and answers one of version 2.0 with 502.
-abbrev pub speaking_v21_in : Phase → Phase
-speaking_v21_in (phases.New hello c) = phases.New (record hello { version = versions.V21 }) c
-speaking_v21_in (phases.Hello (greeters.Connects version) bytes c) = phases.Hello (greeters.Connects versions.V21) bytes c
-speaking_v21_in (phases.Hello (greeters.Accepts own peers oldest) bytes c) = phases.Hello (greeters.Accepts own peers versions.V21) bytes c
-speaking_v21_in phase = phase
-
-abbrev pub speaking_v21 : SessionState → SessionState
-speaking_v21 s = in_phase s (speaking_v21_in s.phase)
+-- the session with its course changed; one that is over has none
+abbrev pub changed : (Course → Course) → Phase → Phase
+changed change (phases.New hello c) = phases.New hello (change c)
+changed change (phases.Hello greeter bytes c) = phases.Hello greeter bytes (change c)
+changed change (phases.Open c) = phases.Open (change c)
+changed change phases.Ended = phases.Ended
 
 -- the session `s` begins to stay
 abbrev pub stays_from : ℕ → SessionState → StandingState
-stays_from now s = record { session = speaking_v21 s; pace = pace_at now s.known.roster }
+stays_from now s = record { session = in_phase s (changed staying s.phase); pace = pace_at now s.known.roster }
 
 -- ---- what is heard and sent
 
@@ -80,20 +74,7 @@ paced phase now event acts p =
 abbrev pub HandsOn : StandingState → ℕ → Event → List Action → StandingState → Type 0
 HandsOn s now event acts e = Goes s.session event acts e.session × (e.pace ≡ paced s.session.phase now event acts s.pace)
 
--- ---- bytes: a resync request waits for a turn
-
--- the session with its course changed; one that is over has none
-abbrev pub changed : (Course → Course) → Phase → Phase
-changed change (phases.New hello c) = phases.New hello (change c)
-changed change (phases.Hello greeter bytes c) = phases.Hello greeter bytes (change c)
-changed change (phases.Open c) = phases.Open (change c)
-changed change phases.Ended = phases.Ended
-
-abbrev pub teaches : Phase → Bool
-teaches (phases.New hello c) = c.teaching
-teaches (phases.Hello greeter bytes c) = c.teaching
-teaches (phases.Open c) = c.teaching
-teaches phases.Ended = false
+-- ---- bytes
 
 abbrev pub shared : Phase → List Share
 shared (phases.New hello c) = c.shares
@@ -108,28 +89,11 @@ is_reopen action = false
 abbrev pub without_reopens : List Action → List Action
 without_reopens acts = filter (λ action. not (is_reopen action)) acts
 
--- the bytes requested a resync: the session would begin one, or would wait for a batch
-abbrev pub is_requested : Bool → List Action → Phase → Bool
-is_requested teaching given (phases.Open c) = c.waits || (c.teaching && not teaching) || list_any is_reopen given
-is_requested teaching given phase = false
-
--- No resync begins, and none waits in the session itself: whether one is under way, and what is shared, is as before.
-abbrev pub put_off : Bool → List Share → Course → Course
-put_off teaching shares c = record c { teaching = teaching; shares = shares; waits = false }
-
--- Bytes are received, and the acknowledgements in them are noted. What the session would begin at a resync request is
--- left to a turn.
+-- bytes are received, and the acknowledgements in them are noted
 abbrev pub Listens : StandingState → ℕ → List ℕ → List Action → StandingState → Type 0
 Listens s now bytes acts e =
-    (given : List Action)
-    × (mid : SessionState)
-    × Goes s.session (events.Bytes bytes) given mid
-    × (acts ≡ without_reopens given)
-    × (e.session ≡ in_phase mid (changed (put_off (teaches s.session.phase) (shared s.session.phase)) mid.phase))
-    × (e.pace ≡ record (paced s.session.phase now (events.Bytes bytes) given s.pace) {
-      requested = s.pace.requested || is_requested (teaches s.session.phase) given mid.phase;
-      progress = noted given s.pace.progress;
-    })
+    Goes s.session (events.Bytes bytes) acts e.session
+    × (e.pace ≡ record (paced s.session.phase now (events.Bytes bytes) acts s.pace) { progress = noted acts s.pace.progress })
 
 -- ---- a turn
 
@@ -146,7 +110,7 @@ finishing c = finished_if (c.teaching && all_quiet c.shares) c
 -- since the remote peer may still request a resync then. Nor does it copy from a table that awaits the names of another one.
 abbrev pub task_at : ℕ → Pace → Course → Task
 task_at now p c =
-    if p.requested && is_rested p.reopened now
+    if c.waits && is_rested p.reopened now
     then (if any_out c.shares then tasks.Rest else tasks.Begin)
     else (if (c.teaching || has_passed push_time p.opened now) && not (awaits_names (table_to_ask c) p.progress c.shares) then tasks.Copy else tasks.Rest)
 
@@ -161,7 +125,7 @@ Does tasks.Begin s c now acts e =
     (c.due ≡ [])
     × (acts ≡ (begun_resync c).0)
     × (e.session ≡ going s.session (begun_resync c).1)
-    × (e.pace ≡ record (paced s.session.phase now events.Turn acts s.pace) { reopened = Some now; requested = false })
+    × (e.pace ≡ record (paced s.session.phase now events.Turn acts s.pace) { reopened = Some now })
 
 abbrev pub TakesTurn : Phase → StandingState → ℕ → List Action → StandingState → Type 0
 TakesTurn (phases.Open c) s now acts e = Does (task_at now s.pace c) s c now acts e

@@ -4,25 +4,27 @@ ghost use Rattle.std.specs.Prelude.{◌≡◌, ◌++◌, Some, None, Ok, true, f
 ghost use Rattle.session_core.specs.declared.error.SessionError.TheVariants as errors;
 ghost use Rattle.session_core.specs.Shares.{out_set, quiet_set, unquieted};
 ghost use Rattle.session_core.specs.Actions.{reopens};
-ghost use Rattle.session_core.specs.Courses.{course_begun, teaching_anew, table_to_ask, is_due, none_due, Answered, finished, state_of_course};
-ghost use Rattle.session_core.specs.Sessions.{opening};
+ghost use Rattle.session_core.specs.Courses.{course_begun, is_held, kind_of, staying, teaching_anew, table_to_ask, is_due, none_due, Answered, finished, state_of_course};
+ghost use Rattle.session_core.specs.Sessions.{first_word, opening};
 
 use crate::action::{Action, push};
 use crate::controls::Controls;
 use crate::due::Due;
 use crate::error::SessionError;
-use crate::share::{Share, next_table, set_out, set_quiet, shares_of, unquiet};
+use crate::share::{Share, any_out, next_table, set_out, set_quiet, shares_of, unquiet};
 use crate::state::State;
 use learner::Intake;
 use peers_msg::Control;
 use std::alloc::Global;
 use std::collections::VecDeque;
 use std::marker::Model;
-use table_types::{Memory, Roster, Version};
+use table_types::{CopyKind, Memory, Roster, Version};
 
 /// The course of a session: what it received from the remote peer, and the state of its teaching.
 #[derive(Drop)]
 pub(crate) struct Course {
+    /// Whether the session stays for as long as its connection does.
+    pub(crate) stays: bool,
     pub(crate) intake: Intake,
     /// Whether this node is up to date itself.
     pub(crate) up_to_date: bool,
@@ -45,7 +47,7 @@ impl Model for Course {
 
     ghost Value = { Course };
 
-    ghost view = { λ c. record { intake = c.intake; up_to_date = c.up_to_date; shares = c.shares.items; asked = c.asked; teaching = c.teaching; waits = c.waits; due = c.due.items } };
+    ghost view = { λ c. record { stays = c.stays; intake = c.intake; up_to_date = c.up_to_date; shares = c.shares.items; asked = c.asked; teaching = c.teaching; waits = c.waits; due = c.due.items } };
 }
 
 /// Appends a `Reopen` for each of the tables.
@@ -75,6 +77,7 @@ impl Course {
     {
         let shares = shares_of(alloc, roster.tables())?;
         Ok(Course {
+            stays: false,
             intake: Intake::new(alloc, roster),
             up_to_date,
             shares,
@@ -84,6 +87,20 @@ impl Course {
             due: VecDeque::new(alloc),
             controls: Controls::none(),
         })
+    }
+
+    /// Has the session stay from now on.
+    pub(crate) fn stay(&mut self)
+        ensures { self.new ≡ staying self.old }
+    {
+        self.stays = true;
+    }
+
+    /// Returns whether a resync request is deferred: while a batch is outstanding, and always if the session stays.
+    pub(crate) fn is_held(&self) -> bool
+        ensures { result ≡ is_held self.now.stays self.now.shares }
+    {
+        self.stays || any_out(self.shares.as_slice())
     }
 
     /// Returns whether no answer is due.
@@ -107,14 +124,36 @@ impl Course {
         Ok(())
     }
 
-    /// Returns the table that a turn asks for a batch. There is none while a resync request is deferred.
+    /// Returns the table that a turn asks for a batch. There is none while a resync request is deferred, unless the session stays.
     pub(crate) fn table_to_ask(&self) -> Option<u64>
         ensures { result ≡ table_to_ask self.now }
     {
-        if self.waits {
+        if self.waits && !self.stays {
             return None;
         }
         next_table(self.shares.as_slice(), self.asked, self.teaching)
+    }
+
+    /// Returns the kind of the copy that a turn asks for.
+    pub(crate) fn kind(&self) -> CopyKind
+        ensures { result ≡ kind_of self.now.stays self.now.teaching }
+    {
+        match (self.stays, self.teaching) {
+            (_, false) => CopyKind::Push,
+            (false, true) => CopyKind::Resync,
+            (true, true) => CopyKind::Standing,
+        }
+    }
+
+    /// Returns the first message of a session that connects.
+    pub(crate) fn first_word(&self) -> Control
+        ensures { result ≡ first_word self.now.stays }
+    {
+        if self.stays {
+            Control::Heartbeat
+        } else {
+            Control::ResyncRequest
+        }
     }
 
     /// Returns the state of the open session.

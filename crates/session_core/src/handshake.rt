@@ -3,13 +3,12 @@
 ghost use Rattle.std.specs.Prelude.{List, ◌≡◌, ◌∷◌, [], IfOk, drop};
 ghost use Rattle.peers_hello.specs.Hellos.{hello_text, answer_of};
 ghost use Rattle.peers_hello.specs.Statuses.{status_of};
-ghost use Rattle.peers_msg.specs.declared.control.Control.TheVariants as controls;
 ghost use Rattle.session_core.specs.declared.action.Action.{Action};
 ghost use Rattle.session_core.specs.declared.action.Action.TheVariants as actions;
 ghost use Rattle.session_core.specs.declared.phase.Greeter.TheVariants as greeters;
-ghost use Rattle.session_core.specs.Actions.{status_text, sends_control};
+ghost use Rattle.session_core.specs.Actions.{status_text};
 ghost use Rattle.session_core.specs.Courses.{Course};
-ghost use Rattle.session_core.specs.Sessions.{SessionState, Connects, Accepts, Greets, Follows, answer_from, falls_back, only_v21};
+ghost use Rattle.session_core.specs.Sessions.{SessionState, Connects, Accepts, Greets, Follows, falls_back, first_word};
 
 use crate::action::{Action, only, push};
 use crate::phase::Greeter;
@@ -74,13 +73,6 @@ pub(crate) fn greeting(alloc: Global, hello: &Hello) -> Result<Vec<Action>, Memo
     only(alloc, Action::Send(Items::new(hello.write(alloc)?)))
 }
 
-/// Returns the action that requests a resync.
-fn request(alloc: Global) -> Result<Vec<Action>, Memory>
-    ensures { IfOk result (λ acts. acts.items ≡ sends_control controls.ResyncRequest ∷ []) }
-{
-    only_control(alloc, Control::ResyncRequest)
-}
-
 /// Returns whether a session that said this version in its hello falls back at a status with `code`.
 fn falls_back(version: Version, code: u16) -> bool
     ensures { result ≡ falls_back version code }
@@ -91,15 +83,21 @@ fn falls_back(version: Version, code: u16) -> bool
     }
 }
 
-/// Reads the received bytes of the status that answers this node's hello, which said `version`.
-fn receive_status(alloc: Global, version: Version, bytes: &[u8]) -> Result<Handshake, Memory>
-    ensures { IfOk result (λ handshake. (s : SessionState) (c : Course) (acts : List Action) (e : SessionState) → Follows handshake s (greeters.Connects version) bytes.now c acts e → Connects version (status_of bytes.now) s bytes.now c acts e) }
+/// Reads the received bytes of the status that answers this node's hello, which said `version`. `word` is the message that answers
+/// status 200.
+fn receive_status(
+    alloc: Global,
+    version: Version,
+    word: Control,
+    bytes: &[u8],
+) -> Result<Handshake, Memory>
+    ensures { IfOk result (λ handshake. (s : SessionState) (c : Course) (acts : List Action) (e : SessionState) → word ≡ first_word c.stays → Follows handshake s (greeters.Connects version) bytes.now c acts e → Connects version (status_of bytes.now) s bytes.now c acts e) }
 {
     match read_status(bytes) {
         Status::More => Ok(Handshake::Incomplete),
         Status::Code(code, used) => {
             if code == 200 {
-                let answer = request(alloc)?;
+                let answer = only_control(alloc, word)?;
                 Ok(Handshake::Accepted {
                     used,
                     version,
@@ -119,39 +117,16 @@ fn receive_status(alloc: Global, version: Version, bytes: &[u8]) -> Result<Hands
     }
 }
 
-/// Returns the answer of a peer that speaks version 2.1 alone: it refuses a hello of version 2.0 with 502, as one of an
-/// unknown version.
-pub fn only_v21(answer: Answer) -> Answer
-    ensures { result ≡ only_v21 answer }
-{
-    match answer {
-        Answer::Accepted(_, Version::V20, used) => Answer::Refused(BAD_VERSION, used),
-        answer => answer,
-    }
-}
-
-/// Returns the answer of a peer that speaks version `oldest` and later.
-fn answer_from(oldest: Version, answer: Answer) -> Answer
-    ensures { result ≡ answer_from oldest answer }
-{
-    match oldest {
-        Version::V20 => answer,
-        Version::V21 => only_v21(answer),
-    }
-}
-
-/// Reads the received bytes of the remote peer's hello, which must name this node, `own`, and one of `peers`, and say version
-/// `oldest` or later.
+/// Reads the received bytes of the remote peer's hello, which must name this node, `own`, and one of `peers`.
 fn receive_hello(
     alloc: Global,
     own: &Name,
     peers: &[Name],
-    oldest: Version,
     bytes: &[u8],
 ) -> Result<Handshake, Memory>
-    ensures { IfOk result (λ handshake. (s : SessionState) (c : Course) (acts : List Action) (e : SessionState) → Follows handshake s (greeters.Accepts own.now peers.now oldest) bytes.now c acts e → Accepts (answer_from oldest (answer_of own.now peers.now bytes.now)) s (greeters.Accepts own.now peers.now oldest) bytes.now c acts e) }
+    ensures { IfOk result (λ handshake. (s : SessionState) (c : Course) (acts : List Action) (e : SessionState) → Follows handshake s (greeters.Accepts own.now peers.now) bytes.now c acts e → Accepts (answer_of own.now peers.now bytes.now) s (greeters.Accepts own.now peers.now) bytes.now c acts e) }
 {
-    match answer_from(oldest, Hello::read(alloc, bytes, own, peers)?) {
+    match Hello::read(alloc, bytes, own, peers)? {
         Answer::More => Ok(Handshake::Incomplete),
         Answer::Accepted(_, version, used) => {
             let answer = only(alloc, Action::Send(status_text(alloc, 200)?))?;
@@ -173,15 +148,18 @@ fn receive_hello(
 }
 
 impl Greeter {
-    /// Reads the received bytes of the hello or the status.
-    pub(crate) fn receive(&self, alloc: Global, bytes: &[u8]) -> Result<Handshake, Memory>
-        ensures { IfOk result (λ handshake. (s : SessionState) (c : Course) (acts : List Action) (e : SessionState) → Follows handshake s self.now bytes.now c acts e → Greets s self.now bytes.now c acts e) }
+    /// Reads the received bytes of the hello or the status. `word` is the first message of a session that connects.
+    pub(crate) fn receive(
+        &self,
+        alloc: Global,
+        word: Control,
+        bytes: &[u8],
+    ) -> Result<Handshake, Memory>
+        ensures { IfOk result (λ handshake. (s : SessionState) (c : Course) (acts : List Action) (e : SessionState) → word ≡ first_word c.stays → Follows handshake s self.now bytes.now c acts e → Greets s self.now bytes.now c acts e) }
     {
         match self {
-            Greeter::Connects(version) => receive_status(alloc, *version, bytes),
-            Greeter::Accepts { own, peers, oldest } => {
-                receive_hello(alloc, own, peers.as_slice(), *oldest, bytes)
-            }
+            Greeter::Connects(version) => receive_status(alloc, *version, word, bytes),
+            Greeter::Accepts { own, peers } => receive_hello(alloc, own, peers.as_slice(), bytes),
         }
     }
 }

@@ -3,11 +3,11 @@
 ghost use Rattle.std.specs.Prelude.{◌≡◌, ◌⊎◌, ℕ, Bool, None, ◌∷◌, ◌++◌, [], true, false, List};
 ghost use Rattle.std.specs.List.{AllByRecursion, list_any};
 ghost use Rattle.table_types.specs.Tables.{Definition};
+ghost use Rattle.table_types.specs.declared.copies.CopyKind.TheVariants as kinds;
 ghost use Rattle.session_core.specs.declared.action.Action.{Action};
 ghost use Rattle.session_core.specs.declared.event.Event.{Event};
 ghost use Rattle.peers_msg.specs.Integers.{IsBytes};
 ghost use Rattle.peers_msg.specs.Decoding.{together};
-ghost use Rattle.table_types.specs.declared.version.Version.{Version};
 ghost use Rattle.peers_hello.specs.declared.hello.Hello.{Hello};
 ghost use Rattle.peers_hello.specs.Hellos.{answer_of};
 ghost use Rattle.peers_hello.specs.Meetings.{by_answer, by_status};
@@ -18,7 +18,7 @@ ghost use Rattle.session_core.specs.Courses.{Course};
 ghost use Rattle.session_core.specs.Cutting.{AreFed, IsFedOut, without_acks};
 ghost use Rattle.session_core.specs.Hearing.{Hears, asked_in, heard_in, told};
 ghost use Rattle.session_core.specs.Standing.{is_open, is_reopen};
-ghost use Rattle.session_core.specs.Sessions.{SessionState, Goes, accepting_from, answer_from, connecting, is_asked};
+ghost use Rattle.session_core.specs.Sessions.{SessionState, Goes, accepting, connecting, is_asked};
 ghost use Rattle.session_core.specs.Runs.{Runs, IsBegun, ends_resync, falls_back_in, HasNothingLeft, HasNothingOut, HoldsBytes, BringsBytes, version_in, was_confirmed};
 
 /// A resync ends only once everything is taught. In every run from the beginning, at an event at which the session
@@ -29,7 +29,7 @@ pub fn resyncs_end_taught()
         IsBegun roster begun → Runs begun steps s → Goes s event acts e → ends_resync acts ≡ true → HasNothingOut s }
     ensures left { (roster : List Definition) (begun s e : SessionState) (steps : List (Event × List Action)) (event : Event) (acts : List Action) →
         IsBegun roster begun → Runs begun steps s → Goes s event acts e → ends_resync acts ≡ true →
-        AllByRecursion (λ d. HasNothingLeft (steps ++ ((event, acts) ∷ [])) d.id) roster }
+        AllByRecursion (λ d. HasNothingLeft kinds.Resync (steps ++ ((event, acts) ∷ [])) d.id) roster }
 {}
 
 /// An event that may not happen makes no step: no case of the machine fits it.
@@ -45,9 +45,9 @@ pub fn the_hello_decides()
         Runs (connecting hello roster up_to_date) steps s →
         (s.version ≡ version_in (by_status hello.version (status_of (heard_in steps)) (heard_in steps)))
         × (s.fell_back ≡ falls_back_in hello.version (by_status hello.version (status_of (heard_in steps)) (heard_in steps))) }
-    ensures accepts { (oldest : Version) (own : List ℕ) (peers : List (List ℕ)) (roster : List Definition) (up_to_date : Bool) (s : SessionState) (steps : List (Event × List Action)) →
-        Runs (accepting_from oldest own peers roster up_to_date) steps s →
-        (s.version ≡ version_in (by_answer (answer_from oldest (answer_of own peers (heard_in steps))) (heard_in steps))) × (s.fell_back ≡ false) }
+    ensures accepts { (own : List ℕ) (peers : List (List ℕ)) (roster : List Definition) (up_to_date : Bool) (s : SessionState) (steps : List (Event × List Action)) →
+        Runs (accepting own peers roster up_to_date) steps s →
+        (s.version ≡ version_in (by_answer (answer_of own peers (heard_in steps)) (heard_in steps))) × (s.fell_back ≡ false) }
 {}
 
 /// A session says that it confirmed a resync exactly if it asked to send resync confirmed somewhere in its run.

@@ -2,7 +2,7 @@
 
 ghost use Rattle.std.specs.Prelude.{◌≡◌, ◌==◌, ◌++◌, not, filter, OnOk};
 ghost use Rattle.std.specs.List.{list_any};
-ghost use Rattle.session_core.specs.Standing.{begun_resync, caught_up_in, finishing, leaving, put_off, without_tables};
+ghost use Rattle.session_core.specs.Standing.{begun_resync, caught_up_in, finishing, leaving, without_tables};
 
 use crate::action::Action;
 use crate::course::Course;
@@ -74,15 +74,5 @@ impl Course {
         ensures { self.new ≡ caught_up_in left self.old }
     {
         self.up_to_date = self.up_to_date || !left;
-    }
-
-    /// Takes back the beginning or the deferral of a resync. `teaching` says whether one was under way, and `shares` are the
-    /// tables as they were.
-    pub(crate) fn put_off(&mut self, teaching: bool, shares: Vec<Share>)
-        ensures { self.new ≡ put_off teaching shares.items self.old }
-    {
-        self.teaching = teaching;
-        self.shares = shares;
-        self.waits = false;
     }
 }

@@ -32,7 +32,6 @@ pub use action::Action;
 pub use controls::Controls;
 pub use error::SessionError;
 pub use event::Event;
-pub use handshake::only_v21;
 pub use laws::{
     a_fault_ends_the_session, a_step_exists, a_step_is_unique, any_answers, any_events,
     any_greeting, confirmed_is_sent, resyncs_end_taught, the_hello_decides, unasked_is_no_step,

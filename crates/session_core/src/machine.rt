@@ -11,7 +11,6 @@ ghost use Rattle.session_core.specs.Phases as phases;
 ghost use Rattle.session_core.specs.declared.phase.Stage.TheVariants as stages;
 ghost use Rattle.session_core.specs.Courses.{course_fed, none_due, acks_sent, acks_given};
 ghost use Rattle.session_core.specs.Sessions.{Goes, GoesOpen, Keeps, Concludes, Refuses, IsWhy, is_asked_open, phase_of, seen, going, kind_of_fault, state_of};
-ghost use Rattle.session_core.specs.Standing.{speaking_v21};
 
 use crate::action::{Action, confirms, only, push};
 use crate::course::Course;
@@ -95,7 +94,7 @@ impl Machine {
                     bytes
                         .extend_from_slice(piece.as_slice())
                         .map_err(Memory::from)?;
-                    match greeter.receive(alloc, bytes.as_slice())? {
+                    match greeter.receive(alloc, self.course.first_word(), bytes.as_slice())? {
                         Handshake::Incomplete => Ok(Vec::new(alloc)),
                         Handshake::Accepted {
                             used,
@@ -202,18 +201,6 @@ impl Machine {
         self.confirmed = self.confirmed || confirms(actions.as_slice());
         self.version = version;
         Ok(())
-    }
-
-    /// Has the session speak version 2.1 alone from now on, if its hello isn't done yet.
-    pub(crate) fn speak_v21(&mut self)
-        ensures { seen self.new ≡ speaking_v21 (seen self.old) }
-    {
-        match &mut self.stage {
-            Stage::New(hello) => hello.version = Version::V21,
-            Stage::Hello(Greeter::Connects(version), _) => *version = Version::V21,
-            Stage::Hello(Greeter::Accepts { oldest, .. }, _) => *oldest = Version::V21,
-            Stage::Open | Stage::Ended => {}
-        }
     }
 
     /// Ends the session, and returns the action that closes the connection.

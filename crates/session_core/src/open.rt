@@ -11,9 +11,9 @@ use crate::course::Course;
 use crate::due::Due;
 use crate::error::SessionError;
 use crate::receiving::only_control;
-use crate::share::{all_quiet, any_out};
+use crate::share::all_quiet;
 use std::alloc::Global;
-use table_types::{Batch, CopyKind, Memory, Settled};
+use table_types::{Batch, Memory, Settled};
 
 impl Course {
     /// Handles a turn: asks the next table for a batch, if there is one.
@@ -26,11 +26,7 @@ impl Course {
         }
         match self.table_to_ask() {
             Some(table) => {
-                let kind = if self.teaching {
-                    CopyKind::Resync
-                } else {
-                    CopyKind::Push
-                };
+                let kind = self.kind();
                 self.due.push_back(Due::Copy(table)).map_err(Memory::from)?;
                 self.asked = Some(table);
                 Ok(only(alloc, Action::Copy { table, kind })?)
@@ -82,7 +78,8 @@ impl Course {
         Ok(Vec::new(alloc))
     }
 
-    /// Handles what an acknowledgement settled in `table`. Starts a deferred resync once no batch is outstanding.
+    /// Handles what an acknowledgement settled in `table`. Starts a deferred resync once no batch is outstanding,
+    /// unless the session stays.
     pub(crate) fn settled(
         &mut self,
         alloc: Global,
@@ -96,7 +93,7 @@ impl Course {
         let mut actions = Vec::new(alloc);
         if settled == Settled::All {
             self.set_out(table, false);
-            if self.waits && !any_out(self.shares.as_slice()) {
+            if self.waits && !self.is_held() {
                 self.begin_teaching(&mut actions)?;
             }
         }

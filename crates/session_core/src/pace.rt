@@ -38,8 +38,6 @@ pub(crate) struct Pace {
     pub(crate) opened: u64,
     /// When this node last began a resync.
     pub(crate) reopened: Option<u64>,
-    /// Whether a resync request of the remote peer waits.
-    pub(crate) requested: bool,
     /// Whether a table was left.
     pub(crate) left: bool,
     /// The progress in each table, in roster order.
@@ -51,7 +49,7 @@ impl Model for Pace {
 
     ghost Value = { Pace };
 
-    ghost view = { λ p. record { sent = p.sent; heard = p.heard; opened = p.opened; reopened = p.reopened; requested = p.requested; left = p.left; progress = p.progress.items } };
+    ghost view = { λ p. record { sent = p.sent; heard = p.heard; opened = p.opened; reopened = p.reopened; left = p.left; progress = p.progress.items } };
 }
 
 impl Pace {
@@ -64,7 +62,6 @@ impl Pace {
             heard: now,
             opened: now,
             reopened: None,
-            requested: false,
             left: false,
             progress: progress_of(alloc, roster.tables(), now)?,
         })
@@ -83,13 +80,6 @@ impl Pace {
         if !is_open {
             self.opened = now;
         }
-    }
-
-    /// Notes whether a resync was requested.
-    pub(crate) fn request(&mut self, requested: bool)
-        ensures { self.new ≡ record self.old { requested = self.old.requested || requested } }
-    {
-        self.requested = self.requested || requested;
     }
 
     /// Notes whether a table was left.
@@ -125,7 +115,7 @@ impl Pace {
     pub(crate) fn task(&self, course: &Course, now: u64) -> Task
         ensures { result ≡ task_at now self.now course.now }
     {
-        if self.requested && self.is_rested(now) {
+        if course.waits && self.is_rested(now) {
             if any_out(course.shares.as_slice()) {
                 Task::Rest
             } else {

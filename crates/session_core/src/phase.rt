@@ -14,8 +14,6 @@ pub(crate) enum Greeter {
         own: Name,
         /// The peers that this node accepts.
         peers: Items<Name>,
-        /// The oldest version that this node accepts.
-        oldest: Version,
     },
 }
 

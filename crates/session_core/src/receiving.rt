@@ -6,16 +6,16 @@ ghost use Rattle.learner.specs.Intake.{IntakeNext};
 ghost use Rattle.peers_msg.specs.Spelling.{stream_of};
 ghost use Rattle.session_core.specs.declared.action.Action.{Action};
 ghost use Rattle.session_core.specs.declared.halt.Halt.TheVariants as halts;
-ghost use Rattle.session_core.specs.Shares.{any_out, is_out};
+ghost use Rattle.session_core.specs.Shares.{is_out};
 ghost use Rattle.session_core.specs.Actions.{control_text, sends_control};
-ghost use Rattle.session_core.specs.Courses.{Course, course_fed, requested, acknowledged, said, message_received, is_failure, Receives, AreReceived, IsHalted, ReceivesAll, acks_sent, acks_given};
+ghost use Rattle.session_core.specs.Courses.{Course, course_fed, is_held, requested, acknowledged, said, message_received, is_failure, Receives, AreReceived, IsHalted, ReceivesAll, acks_sent, acks_given};
 
 use crate::acks::ack_of;
 use crate::action::{Action, only, push};
 use crate::course::Course;
 use crate::due::Due;
 use crate::halt::Halt;
-use crate::share::{any_out, is_out};
+use crate::share::is_out;
 use learner::Taken;
 use peers_msg::{Control, Message, append};
 use std::alloc::Global;
@@ -63,10 +63,10 @@ fn stream_of(alloc: Global, messages: &[Message]) -> Result<Items<u8>, Memory>
 impl Course {
     /// Receives a request for a resync.
     fn request(&mut self, actions: &mut Vec<Action>) -> Result<(), Memory>
-        ensures actions { OnOk result (actions.new.items ≡ actions.old.items ++ (requested (any_out self.old.shares) self.old).0) }
-        ensures course { OnOk result (self.new ≡ (requested (any_out self.old.shares) self.old).1) }
+        ensures actions { OnOk result (actions.new.items ≡ actions.old.items ++ (requested (is_held self.old.stays self.old.shares) self.old).0) }
+        ensures course { OnOk result (self.new ≡ (requested (is_held self.old.stays self.old.shares) self.old).1) }
     {
-        if any_out(self.shares.as_slice()) {
+        if self.is_held() {
             self.waits = true;
             Ok(())
         } else {

@@ -90,7 +90,6 @@ impl Session {
         let greeter = Greeter::Accepts {
             own,
             peers: Items::new(peers),
-            oldest: Version::V20,
         };
         Ok(Session {
             alloc,

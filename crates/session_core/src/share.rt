@@ -41,13 +41,6 @@ pub(crate) fn shares_of(alloc: Global, tables: &[TableDef]) -> Result<Vec<Share>
     Ok(shares)
 }
 
-/// Returns a copy of the tables.
-pub(crate) fn copy_of(alloc: Global, shares: &[Share]) -> Result<Vec<Share>, Memory>
-    ensures { IfOk result (λ copy. copy.items ≡ shares.now) }
-{
-    Ok(Vec::from_slice(alloc, shares)?)
-}
-
 /// Returns whether some table delays the beginning of a resync.
 pub(crate) fn any_out(shares: &[Share]) -> bool
     ensures { result ≡ any_out shares.now }

@@ -23,7 +23,8 @@ use std::marker::Model;
 use table_types::{Memory, Moment, Version};
 
 /// A session that stays for as long as its connection does (HAProxy, doc/peers-v2.0.txt). It hands each event on to the
-/// session itself, and adds what depends on the clock:
+/// session itself, which then requests no resync by itself, leaves the beginning of a resync to its turns, and copies, in a
+/// resync, each table's rows up to the session's bound in it. It adds what depends on the clock:
 ///
 /// - At a tick, it sends a heartbeat if it has sent nothing for 3 s, and closes if it has received nothing for 10 s.
 /// - Once a batch is written, it counts as acknowledged if its last number is the one that the remote peer acknowledged
@@ -36,7 +37,6 @@ use table_types::{Memory, Moment, Version};
 ///   connection, which ends the session.
 /// - It begins a requested resync at a turn, and not within a second of the one before. It pushes nothing in the first
 ///   300 ms.
-/// - It speaks version 2.1 alone: its own hello says so, and it answers a hello of version 2.0 with 502.
 ///
 /// Its caller answers its actions as it would those of a `Session`. The moments of all calls are of one clock.
 #[derive(Drop)]
@@ -54,14 +54,14 @@ impl Model for Standing {
 }
 
 impl Standing {
-    /// Makes `session` one that stays, from `now` on, and that speaks version 2.1 alone if its hello isn't done yet. Fails with
-    /// `Memory` if memory runs out. The laws about sessions that stay speak of one that was new.
+    /// Makes `session` one that stays, from `now` on. Fails with `Memory` if memory runs out. The laws about sessions that stay speak of
+    /// one that was new.
     pub fn new(alloc: Global, session: Session, now: Moment) -> Result<Standing, Memory>
         ensures { IfOk result (λ standing. standing ≡ stays_from now session) }
     {
         let pace = Pace::new(alloc, session.known().roster(), now.milliseconds())?;
         let mut machine = session.into_machine();
-        machine.speak_v21();
+        machine.course.stay();
         Ok(Standing {
             alloc,
             stay: Stay { machine, pace },
@@ -101,6 +101,13 @@ impl Standing {
         ensures { result ≡ self.now.session.version }
     {
         self.stay.machine.version
+    }
+
+    /// Returns whether the session fell back: its own hello said version 2.1, and the remote peer answered with status 502.
+    pub fn fell_back(&self) -> bool
+        ensures { result ≡ self.now.session.fell_back }
+    {
+        self.stay.machine.fell_back
     }
 
     /// Returns how often the remote peer has sent each control message. No contract says what is counted.

@@ -1,8 +1,10 @@
 //! Laws of sessions that stay, which hold whatever the program does.
 
-ghost use Rattle.std.specs.Prelude.{◌≡◌, ◌≢◌, ◌≤◌, ◌<◌, ◌+◌, ◌⊎◌, ◌&&◌, not, ℕ, Bool, true, false, ◌∷◌, ◌++◌, [], List};
+ghost use Rattle.std.specs.Prelude.{◌≡◌, ◌≢◌, ◌≤◌, ◌<◌, ◌+◌, ◌⊎◌, ◌&&◌, not, ℕ, Bool, true, false, ◌∷◌, ◌++◌, [], List, Some};
 ghost use Rattle.std.specs.List.{list_any, list_all, AllByRecursion};
 ghost use Rattle.table_types.specs.Tables.{Definition};
+ghost use Rattle.table_types.specs.declared.copies.CopyKind.TheVariants as kinds;
+ghost use Rattle.table_types.specs.declared.version.Version.TheVariants as versions;
 ghost use Rattle.session_core.specs.declared.action.Action.{Action};
 ghost use Rattle.session_core.specs.declared.event.Event.{Event};
 ghost use Rattle.session_core.specs.Phases as phases;
@@ -70,7 +72,7 @@ pub fn standing_resyncs_end_taught()
         BeginsToStay roster begun → Lasts begun steps s → Happens s one e → ends_resync (acts_of one) ≡ true → HasNothingOut e.session }
     ensures left { (roster : List Definition) (begun s e : StandingState) (steps : List Happening) (one : Happening) →
         BeginsToStay roster begun → Lasts begun steps s → Happens s one e → ends_resync (acts_of one) ≡ true →
-        AllByRecursion (λ d. (was_left d.id (steps ++ (one ∷ [])) ≡ true) ⊎ HasNothingLeft (handed (steps ++ (one ∷ []))) d.id) roster }
+        AllByRecursion (λ d. (was_left d.id (steps ++ (one ∷ [])) ≡ true) ⊎ HasNothingLeft kinds.Standing (handed (steps ++ (one ∷ []))) d.id) roster }
     ensures finished { (roster : List Definition) (begun s e : StandingState) (steps : List Happening) (one : Happening) →
         BeginsToStay roster begun → Lasts begun steps s → Happens s one e → list_any is_finish (acts_of one) ≡ true →
         list_any leaves_any (steps ++ (one ∷ [])) ≡ false }
@@ -103,15 +105,19 @@ pub fn heartbeats_keep_time()
         n < u.pace.sent + (heartbeat_time + d) }
 {}
 
-/// Resyncs begin a second apart. A resync begins only if none began within the last second. And in every run from the
-/// beginning, two events that reopen tables are at least 1 s apart, if nothing between them happened before the first.
+/// Resyncs begin a second apart. A resync begins only if none began within the last second. In every run from the beginning, two turns
+/// that reopen tables are at least 1 s apart, if nothing between them happened before the first. Any other event that reopens tables is
+/// the one at which a session of version 2.0 opens (`opens`).
 pub fn resyncs_begin_apart()
     ensures rested { (s e : StandingState) (now : ℕ) (event : Event) (acts : List Action) → Stands s now event acts e →
         e.pace.reopened ≢ s.pace.reopened → is_rested s.pace.reopened now ≡ true }
-    ensures apart { (roster : List Definition) (begun s t u e : StandingState) (before between : List Happening) (m n : ℕ) (first last : Event) (acts given : List Action) →
-        BeginsToStay roster begun → Lasts begun before s → Stands s m first acts t → list_any is_reopen acts ≡ true →
-        Lasts t between u → AllByRecursion (IsSince m) between → Stands u n last given e → list_any is_reopen given ≡ true →
+    ensures apart { (roster : List Definition) (begun s t u e : StandingState) (before between : List Happening) (m n : ℕ) (acts given : List Action) →
+        BeginsToStay roster begun → Lasts begun before s → Stands s m events.Turn acts t → list_any is_reopen acts ≡ true →
+        Lasts t between u → AllByRecursion (IsSince m) between → Stands u n events.Turn given e → list_any is_reopen given ≡ true →
         m + resync_time ≤ n }
+    ensures opens { (roster : List Definition) (begun s e : StandingState) (steps : List Happening) (now : ℕ) (event : Event) (acts : List Action) →
+        BeginsToStay roster begun → Lasts begun steps s → Stands s now event acts e → list_any is_reopen acts ≡ true →
+        (event ≡ events.Turn) ⊎ ((is_open s.session.phase ≡ false) × (e.session.version ≡ Some versions.V20)) }
 {}
 
 /// A table that was left is left for good. In every run, once a tick has left a table, no later step copies from it, reopens
@@ -166,17 +172,17 @@ pub fn a_standing_step_exists()
 /// However the bytes of an open session that stays are cut into events, at whatever moments, and wherever the answers of its
 /// tables come in between, the session asks its caller for the same (`told`), as `any_answers` says of any session: the same
 /// rows, acknowledgements but for late ones, confirmations and end, in the same order. Once the tables have answered all
-/// acknowledgements, or the session is over, the session is the same (`same`). Its pace needn't be: it has the moments, and for each table the last number that the remote peer
-/// acknowledged, late or not. Nor is it compared whether a resync request waits.
+/// acknowledgements, or the session is over, the session is the same (`same`), with the same resync under way or waiting. Its pace needn't
+/// be: it has the moments, and for each table the last number that the remote peer acknowledged, late or not.
 pub fn any_moments()
-    ensures told { (settles : ℕ → ℕ → Bool) (roster : List Definition) (begun s e end : StandingState) (c : Course) (before : List Happening) (one other : Happening) (steps others : List Happening) (more rest : List ℕ) (left over : List (ℕ × ℕ)) →
-        BeginsToStay roster begun → Lasts begun before s → s.session.phase ≡ phases.Open c → HoldsBytes s.session.phase →
+    ensures told { (settles : ℕ → ℕ → Bool) (s e end : StandingState) (c : Course) (one other : Happening) (steps others : List Happening) (more rest : List ℕ) (left over : List (ℕ × ℕ)) →
+        s.session.phase ≡ phases.Open c → HoldsBytes s.session.phase →
         IsBytes (heard_in (handed (one ∷ steps)) ++ more) → heard_in (handed (one ∷ steps)) ++ more ≡ heard_in (handed (other ∷ others)) ++ rest →
         HearsInTime settles s [] (one ∷ steps) e left → HearsInTime settles s [] (other ∷ others) end over →
         IsFedOut more e.session → IsFedOut rest end.session →
         told settles (handed (one ∷ steps)) ≡ told settles (handed (other ∷ others)) }
-    ensures same { (settles : ℕ → ℕ → Bool) (roster : List Definition) (begun s e end : StandingState) (c : Course) (before : List Happening) (one other : Happening) (steps others : List Happening) (more rest : List ℕ) (left over : List (ℕ × ℕ)) →
-        BeginsToStay roster begun → Lasts begun before s → s.session.phase ≡ phases.Open c → HoldsBytes s.session.phase →
+    ensures same { (settles : ℕ → ℕ → Bool) (s e end : StandingState) (c : Course) (one other : Happening) (steps others : List Happening) (more rest : List ℕ) (left over : List (ℕ × ℕ)) →
+        s.session.phase ≡ phases.Open c → HoldsBytes s.session.phase →
         IsBytes (heard_in (handed (one ∷ steps)) ++ more) → heard_in (handed (one ∷ steps)) ++ more ≡ heard_in (handed (other ∷ others)) ++ rest →
         HearsInTime settles s [] (one ∷ steps) e left → HearsInTime settles s [] (other ∷ others) end over →
         IsFedOut more e.session → IsFedOut rest end.session →

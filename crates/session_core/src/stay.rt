@@ -1,6 +1,6 @@
 //! The steps of a session that stays.
 
-ghost use Rattle.std.specs.Prelude.{◌≡◌, ◌||◌, ◌++◌, [], List, ℕ, true, false, IfOk, IfErr, OnOk, OnErr};
+ghost use Rattle.std.specs.Prelude.{◌≡◌, ◌||◌, ◌++◌, [], ℕ, true, false, IfOk, IfErr, OnOk, OnErr};
 ghost use Rattle.known_state.specs.Known.{KnownState};
 ghost use Rattle.std.specs.List.{list_any};
 ghost use Rattle.session_core.specs.declared.event.Event.TheVariants as events;
@@ -13,7 +13,7 @@ ghost use Rattle.session_core.specs.Phases as phases;
 ghost use Rattle.session_core.specs.Courses.{is_due, none_due};
 ghost use Rattle.session_core.specs.Sessions.{Keeps, Refuses, IsWhy, phase_of, is_asked};
 ghost use Rattle.session_core.specs.Paces.{has_passed, heartbeat_time, is_ahead};
-ghost use Rattle.session_core.specs.Standing.{stood, brings_bytes, is_send, is_reopen, is_requested, without_reopens, Listens, Does, TakesTurn, Writes, Stands, Ticks, TicksIn, HandsOn, answer_of_refusal, any_left, heartbeats, caught_up};
+ghost use Rattle.session_core.specs.Standing.{stood, brings_bytes, is_send, Listens, Does, TakesTurn, Writes, Stands, Ticks, TicksIn, HandsOn, answer_of_refusal, any_left, heartbeats, caught_up};
 
 use crate::action::Action;
 use crate::course::is_due;
@@ -25,7 +25,6 @@ use crate::pace::{Pace, Task};
 use crate::phase::Stage;
 use crate::progress::{inferred, is_ahead, last_number, note_acks, note_copy, tables_to_leave};
 use crate::receiving::push_control;
-use crate::share::copy_of;
 use crate::times;
 use crate::times::has_passed;
 use known_state::Known;
@@ -74,32 +73,6 @@ fn any_send(actions: &[Action]) -> bool
     false
 }
 
-/// Returns whether an action reopens the session in a table.
-fn is_reopen(action: &Action) -> bool
-    ensures { result ≡ is_reopen action.now }
-{
-    matches!(action, Action::Reopen(_))
-}
-
-/// Returns whether one of the actions reopens the session in a table.
-fn any_reopen(actions: &[Action]) -> bool
-    ensures { result ≡ list_any is_reopen actions.now }
-{
-    for action in actions {
-        if is_reopen(action) {
-            return true;
-        }
-    }
-    false
-}
-
-/// Removes the actions that reopen the session in a table.
-fn remove_reopens(actions: &mut Vec<Action>)
-    ensures { actions.new.items ≡ without_reopens actions.old.items }
-{
-    actions.retain(|action| !is_reopen(action));
-}
-
 /// Returns whether there are tables that are left.
 fn any_left(left: &[u64]) -> bool
     ensures { result ≡ any_left left.now }
@@ -128,32 +101,7 @@ impl Stay {
         Ok(actions)
     }
 
-    /// Returns whether bytes that asked for these actions requested a resync. `teaching` says whether one was under way
-    /// before.
-    fn is_requested(&self, teaching: bool, actions: &[Action]) -> bool
-        ensures { result ≡ is_requested teaching actions.now (phase_of self.now.machine.stage self.now.machine.course) }
-    {
-        let course = &self.machine.course;
-        match &self.machine.stage {
-            Stage::Open => course.waits || course.teaching && !teaching || any_reopen(actions),
-            Stage::New(_) | Stage::Hello(_, _) | Stage::Ended => false,
-        }
-    }
-
-    /// Fails if no bytes may come: with `Ended` if the session is over, and otherwise with `Unasked`.
-    fn check_bytes(&self) -> Result<(), SessionError>
-        ensures asked { OnOk result ((bytes : List ℕ) → is_asked (phase_of self.now.machine.stage self.now.machine.course) (events.Bytes bytes) ≡ true) }
-        ensures refused { IfErr result (λ e. (bytes : List ℕ) → Refuses (phase_of self.now.machine.stage self.now.machine.course) (events.Bytes bytes) e) }
-    {
-        match &self.machine.stage {
-            Stage::Hello(_, _) => Ok(()),
-            Stage::Open if self.machine.course.none_due() => Ok(()),
-            Stage::Open | Stage::New(_) => Err(SessionError::Unasked),
-            Stage::Ended => Err(SessionError::Ended),
-        }
-    }
-
-    /// Receives bytes, and leaves what a resync request begins to a turn.
+    /// Receives bytes, and notes the acknowledgements in them.
     fn listen(
         &mut self,
         alloc: Global,
@@ -164,15 +112,8 @@ impl Stay {
         ensures refused { IfErr result (λ e. Refuses (phase_of self.old.machine.stage self.old.machine.course) (events.Bytes bytes) e) }
         ensures kept { OnErr result (Keeps self.old.machine self.new.machine) }
     {
-        self.check_bytes()?;
-        let shares = copy_of(alloc, self.machine.course.shares.as_slice())?;
-        let teaching = self.machine.course.teaching;
-        let mut actions = self.hand_on(alloc, Event::Bytes(bytes), now)?;
-        let requested = self.is_requested(teaching, actions.as_slice());
-        self.pace.request(requested);
+        let actions = self.hand_on(alloc, Event::Bytes(bytes), now)?;
         note_acks(&mut self.pace.progress, actions.as_slice());
-        self.machine.course.put_off(teaching, shares);
-        remove_reopens(&mut actions);
         Ok(actions)
     }
 
@@ -191,7 +132,6 @@ impl Stay {
         self.pace
             .note(any_send(actions.as_slice()), false, true, now);
         self.pace.reopened = Some(now);
-        self.pace.requested = false;
         Ok(actions)
     }
 
