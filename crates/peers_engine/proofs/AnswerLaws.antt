@@ -8,6 +8,8 @@ use Rattle.table_types.specs.declared.copies.CopyKind.{CopyKind}
 use Rattle.table_types.specs.declared.version.Version.{Version}
 use Rattle.peers_msg.specs.declared.control.ErrorKind.{ErrorKind}
 use Rattle.table_shards.specs.Receipts.{SeatState}
+use Rattle.table_shards.specs.Rounds.{ShardsState}
+use Rattle.table_cell.specs.Histories.{CellState}
 use Rattle.known_state.specs.Known.{KnownState}
 use Rattle.session_core.specs.declared.action.Action.{Action}
 use Rattle.session_core.specs.declared.action.Action.TheVariants as actions
@@ -18,17 +20,17 @@ use Rattle.peers_engine.specs.declared.errors.EngineError.{EngineError}
 use Rattle.peers_engine.specs.declared.errors.EngineError.TheVariants as errors
 use Rattle.peers_engine.specs.Calls.{IsCopied, IsLearned, IsReopened, IsSettled, IsTaken, opened_with}
 use Rattle.teach_writer.specs.Lessons.{IsShortestLesson}
-use Rattle.peers_engine.specs.Doing.{Done, Fails, Falls, IsAtTable, IsLeft, IsRefusal, error_text}
+use Rattle.peers_engine.specs.Doing.{Done, Fails, Falls, IsAtTable, IsLeft, IsRefusal, IsStrange, error_text}
 use Rattle.peers_engine.proofs.TurnLaws.{OneDone, OneFails}
 
 -- a write failed
-pub falls_short : (error : EngineError) (n now : ℕ) (x : SessionState) (s t : SeatState) (act : Action) (bytes : List ℕ) (answer : Option Event) (old new : Option (List ℕ))
-    → Done n now x s act bytes answer t → Falls bytes error old new → (out : List ℕ) × Fails n now x s act error out t × Appends old new out
-falls_short (errors.Write sent) n now x s t act bytes answer old new done (within, appended) = (take sent bytes, (bytes, answer, done, within, refl), appended)
-falls_short errors.Read n now x s t act bytes answer old new done falls = absurd falls
-falls_short errors.Memory n now x s t act bytes answer old new done falls = absurd falls
-falls_short errors.Strange n now x s t act bytes answer old new done falls = absurd falls
-falls_short (errors.Session refused) n now x s t act bytes answer old new done falls = absurd falls
+pub falls_short : (shards : ShardsState) (moments : CellState → ℕ) (error : EngineError) (n now : ℕ) (x : SessionState) (s t : SeatState) (act : Action) (bytes : List ℕ) (answer : Option Event) (old new : Option (List ℕ))
+    → Done n now x s act bytes answer t → Falls bytes error old new → (out : List ℕ) × Fails shards moments n now x s act error out t × Appends old new out
+falls_short shards moments (errors.Write sent) n now x s t act bytes answer old new done (within, appended) = (take sent bytes, (bytes, answer, done, within, refl), appended)
+falls_short shards moments errors.Read n now x s t act bytes answer old new done falls = absurd falls
+falls_short shards moments errors.Memory n now x s t act bytes answer old new done falls = absurd falls
+falls_short shards moments errors.Strange n now x s t act bytes answer old new done falls = absurd falls
+falls_short shards moments (errors.Session refused) n now x s t act bytes answer old new done falls = absurd falls
 
 -- ---- actions with an answer
 
@@ -103,44 +105,44 @@ close_done n now x s action known is = ([], subst (λ (a : Action). Done n now x
 -- ---- failures
 
 -- bytes, and an error message, that weren't written whole
-pub send_falls : (n now : ℕ) (x : SessionState) (s : SeatState) (action : Action) (bytes out : List ℕ) (error : EngineError) (old new : Option (List ℕ))
-    → action ≡ actions.Send bytes → out ≡ bytes → Falls out error old new → OneFails n now x s s action old new error
-send_falls n now x s action bytes out error old new is same falls =
-    subst (λ (a : Action). OneFails n now x s s a old new error) (sym is)
-    (falls_short error n now x s s (actions.Send bytes) out None old new (same, refl, refl) falls)
+pub send_falls : (shards : ShardsState) (moments : CellState → ℕ) (n now : ℕ) (x : SessionState) (s : SeatState) (action : Action) (bytes out : List ℕ) (error : EngineError) (old new : Option (List ℕ))
+    → action ≡ actions.Send bytes → out ≡ bytes → Falls out error old new → OneFails shards moments n now x s s action old new error
+send_falls shards moments n now x s action bytes out error old new is same falls =
+    subst (λ (a : Action). OneFails shards moments n now x s s a old new error) (sym is)
+    (falls_short shards moments error n now x s s (actions.Send bytes) out None old new (same, refl, refl) falls)
 
-pub part_falls : (n now : ℕ) (x : SessionState) (s : SeatState) (action : Action) (kind : ErrorKind) (error : EngineError) (old new : Option (List ℕ))
-    → action ≡ actions.Part kind → Falls (error_text kind) error old new → OneFails n now x s s action old new error
-part_falls n now x s action kind error old new is falls =
-    subst (λ (a : Action). OneFails n now x s s a old new error) (sym is)
-    (falls_short error n now x s s (actions.Part kind) (error_text kind) None old new (refl, refl, refl) falls)
+pub part_falls : (shards : ShardsState) (moments : CellState → ℕ) (n now : ℕ) (x : SessionState) (s : SeatState) (action : Action) (kind : ErrorKind) (error : EngineError) (old new : Option (List ℕ))
+    → action ≡ actions.Part kind → Falls (error_text kind) error old new → OneFails shards moments n now x s s action old new error
+part_falls shards moments n now x s action kind error old new is falls =
+    subst (λ (a : Action). OneFails shards moments n now x s s a old new error) (sym is)
+    (falls_short shards moments error n now x s s (actions.Part kind) (error_text kind) None old new (refl, refl, refl) falls)
 
 -- a table refused the action, or memory ran out
-pub refused_as : (error : EngineError) (n now : ℕ) (x : SessionState) (s t : SeatState) (act : Action) (known : Option (List ℕ)) → IsRefusal error → IsAtTable act → IsLeft n s act t
-    → (out : List ℕ) × Fails n now x s act error out t × Appends known known out
-refused_as errors.Memory n now x s t act known refused at left = ([], inl (refused, at, refl, left), Appends-nil known)
-refused_as errors.Strange n now x s t act known refused at left = ([], (refused, at, refl, left), Appends-nil known)
-refused_as errors.Read n now x s t act known refused at left = absurd refused
-refused_as (errors.Write sent) n now x s t act known refused at left = absurd refused
-refused_as (errors.Session why) n now x s t act known refused at left = absurd refused
+pub refused_as : (shards : ShardsState) (moments : CellState → ℕ) (error : EngineError) (n now : ℕ) (x : SessionState) (s t : SeatState) (act : Action) (known : Option (List ℕ))
+    → IsRefusal (IsStrange shards moments n x s act t) error → IsAtTable act → IsLeft n s act t → (out : List ℕ) × Fails shards moments n now x s act error out t × Appends known known out
+refused_as shards moments errors.Memory n now x s t act known refused at left = ([], inl (refused, at, refl, left), Appends-nil known)
+refused_as shards moments errors.Strange n now x s t act known refused at left = ([], (refused, at, refl, left), Appends-nil known)
+refused_as shards moments errors.Read n now x s t act known refused at left = absurd refused
+refused_as shards moments (errors.Write sent) n now x s t act known refused at left = absurd refused
+refused_as shards moments (errors.Session why) n now x s t act known refused at left = absurd refused
 
-pub call_refused : (n now : ℕ) (x : SessionState) (s t : SeatState) (action act : Action) (known : Option (List ℕ)) (error : EngineError)
-    → action ≡ act → IsAtTable act → IsRefusal error → IsLeft n s act t → OneFails n now x s t action known known error
-call_refused n now x s t action act known error is at refused left =
-    subst (λ (a : Action). OneFails n now x s t a known known error) (sym is) (refused_as error n now x s t act known refused at left)
+pub call_refused : (shards : ShardsState) (moments : CellState → ℕ) (n now : ℕ) (x : SessionState) (s t : SeatState) (action act : Action) (known : Option (List ℕ)) (error : EngineError)
+    → action ≡ act → IsAtTable act → IsRefusal (IsStrange shards moments n x s act t) error → IsLeft n s act t → OneFails shards moments n now x s t action known known error
+call_refused shards moments n now x s t action act known error is at refused left =
+    subst (λ (a : Action). OneFails shards moments n now x s t a known known error) (sym is) (refused_as shards moments error n now x s t act known refused at left)
 
 -- a lesson for whose next bytes memory ran out
-pub lesson_cut : (n now : ℕ) (x : SessionState) (s t : SeatState) (batch : List Update) (bytes : List ℕ) (answer : Option Event) (sent : ℕ) (old new : Option (List ℕ))
-    → Done n now x s (actions.Teach batch) bytes answer t → sent < length bytes → Appends old new (take sent bytes) → OneFails n now x s t (actions.Teach batch) old new errors.Memory
-lesson_cut n now x s t batch bytes answer sent old new done within appended =
+pub lesson_cut : (shards : ShardsState) (moments : CellState → ℕ) (n now : ℕ) (x : SessionState) (s t : SeatState) (batch : List Update) (bytes : List ℕ) (answer : Option Event) (sent : ℕ) (old new : Option (List ℕ))
+    → Done n now x s (actions.Teach batch) bytes answer t → sent < length bytes → Appends old new (take sent bytes) → OneFails shards moments n now x s t (actions.Teach batch) old new errors.Memory
+lesson_cut shards moments n now x s t batch bytes answer sent old new done within appended =
     (take sent bytes, inr (tt, sent, (bytes, answer, done, within, refl)), appended)
 
 -- a lesson that can't be made or written
-pub teach_fails : (n now : ℕ) (x : SessionState) (s t : SeatState) (action : Action) (batch : List Update) (old new : Option (List ℕ)) (error : EngineError)
-    → action ≡ actions.Teach batch → OneFails n now x s t (actions.Teach batch) old new error → OneFails n now x s t action old new error
-teach_fails n now x s t action batch old new error is fails = subst (λ (a : Action). OneFails n now x s t a old new error) (sym is) fails
+pub teach_fails : (shards : ShardsState) (moments : CellState → ℕ) (n now : ℕ) (x : SessionState) (s t : SeatState) (action : Action) (batch : List Update) (old new : Option (List ℕ)) (error : EngineError)
+    → action ≡ actions.Teach batch → OneFails shards moments n now x s t (actions.Teach batch) old new error → OneFails shards moments n now x s t action old new error
+teach_fails shards moments n now x s t action batch old new error is fails = subst (λ (a : Action). OneFails shards moments n now x s t a old new error) (sym is) fails
 
-pub table_refuses : {X : Type 0} (n now : ℕ) (x : SessionState) (s t : SeatState) (action act : Action) (known : Option (List ℕ)) (result : Result X EngineError)
-    → action ≡ act → IsAtTable act → IfErr result IsRefusal → OnErr result (IsLeft n s act t) → IfErr result (λ error. OneFails n now x s t action known known error)
-table_refuses {X} n now x s t action act known (Ok done) is at refused left = tt
-table_refuses {X} n now x s t action act known (Err error) is at refused left = call_refused n now x s t action act known error is at refused left
+pub table_refuses : (shards : ShardsState) (moments : CellState → ℕ) {X : Type 0} (n now : ℕ) (x : SessionState) (s t : SeatState) (action act : Action) (known : Option (List ℕ)) (result : Result X EngineError)
+    → action ≡ act → IsAtTable act → IfErr result (IsRefusal (IsStrange shards moments n x s act t)) → OnErr result (IsLeft n s act t) → IfErr result (λ error. OneFails shards moments n now x s t action known known error)
+table_refuses shards moments {X} n now x s t action act known (Ok done) is at refused left = tt
+table_refuses shards moments {X} n now x s t action act known (Err error) is at refused left = call_refused shards moments n now x s t action act known error is at refused left

@@ -4,6 +4,7 @@ mod ActLaws
 mod CalmLaws
 mod EndLaws
 mod HaltLaws
+mod MomentLaws
 mod OneActionLaws
 mod PiecesLaws
 mod RefusalLaws

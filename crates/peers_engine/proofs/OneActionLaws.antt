@@ -6,6 +6,7 @@ use Rattle.std.proofs.lemmas.List.Concat.{flat_map-append}
 use Rattle.std.specs.Prelude.{◌≢◌}
 use Rattle.std.specs.Io.KnownBytes.{Appends}
 use Rattle.table_shards.specs.Receipts.{SeatState}
+use Rattle.table_shards.specs.Rounds.{ShardsState}
 use Rattle.session_core.specs.declared.action.Action.{Action}
 use Rattle.session_core.specs.declared.event.Event.{Event}
 use Rattle.session_core.specs.declared.state.State.TheVariants as states
@@ -41,18 +42,18 @@ nothing_done : (w : Worker) (old : Option (List ℕ)) → AreDone w [] [] w old 
 nothing_done w old = ([], [], (refl, refl, refl), refl, Appends-nil old)
 
 -- it fails
-pub fails_alone : (w : Worker) (seat : SeatState) (act : Action) (error : EngineError) (old new : Option (List ℕ))
-    → OneFails w.number w.now w.session w.seat seat act old new error → AreStopped w (act ∷ []) error w.session seat old new
-fails_alone w seat act error old new fails =
-    next_fails w w seat w.session (act ∷ []) [] [] [] act error old old new refl refl (nothing_done w old) fails
+pub fails_alone : (shards : ShardsState) (w : Worker) (seat : SeatState) (act : Action) (error : EngineError) (old new : Option (List ℕ))
+    → OneFails shards (λ c. w.now) w.number w.now w.session w.seat seat act old new error → AreStopped shards w (act ∷ []) error w.session seat old new
+fails_alone shards w seat act error old new fails =
+    next_fails shards w w seat w.session (act ∷ []) [] [] [] act error old old new refl refl (nothing_done w old) fails
 
 -- the session doesn't go on after its answer
-pub unanswered : (w : Worker) (e : SessionState) (seat : SeatState) (act : Action) (answer : Event) (error : EngineError) (old new : Option (List ℕ))
+pub unanswered : (shards : ShardsState) (w : Worker) (e : SessionState) (seat : SeatState) (act : Action) (answer : Event) (error : EngineError) (old new : Option (List ℕ))
     → OneDone w.number w.now w.session w.seat seat act old new (Some answer)
     → (state_of w.session.phase ≢ states.Ended) × DoesNotGoOn w.session answer error e
-    → AreStopped w (act ∷ []) error e seat old new
-unanswered w e seat act answer error old new done (going, stuck) =
-    give_fails w w e seat w.session (act ∷ []) [] [] [] act (Some answer) error old old new refl refl (nothing_done w old) done (answer, refl, going, stuck)
+    → AreStopped shards w (act ∷ []) error e seat old new
+unanswered shards w e seat act answer error old new done (going, stuck) =
+    give_fails shards w w e seat w.session (act ∷ []) [] [] [] act (Some answer) error old old new refl refl (nothing_done w old) done (answer, refl, going, stuck)
 
 -- ---- after others
 
@@ -66,9 +67,9 @@ one_more s mid e before given more act a b d (answers, out, acted, kept, appende
   Appends-trans a b d out bytes appended then,
 )
 
-stops_on : (s mid : Worker) (e : SessionState) (seat : SeatState) (before rest : List Action) (act : Action) (error : EngineError) (answers more : List (Event × List Action)) (out last : List ℕ)
-    → Acts s before answers out mid → Stops mid (act ∷ []) error more last e seat → Stops s (before ++ (act ∷ rest)) error (answers ++ more) (out ++ last) e seat
-stops_on s mid e seat before rest act error answers more out last acted (done, left, first, cut, then, is, also, why, written, over) = (
+stops_on : (shards : ShardsState) (s mid : Worker) (e : SessionState) (seat : SeatState) (before rest : List Action) (act : Action) (error : EngineError) (answers more : List (Event × List Action)) (out last : List ℕ)
+    → Acts s before answers out mid → Stops shards mid (act ∷ []) error more last e seat → Stops shards s (before ++ (act ∷ rest)) error (answers ++ more) (out ++ last) e seat
+stops_on shards s mid e seat before rest act error answers more out last acted (done, left, first, cut, then, is, also, why, written, over) = (
   before ++ done,
   left ++ rest,
   out ++ first,
@@ -76,17 +77,17 @@ stops_on s mid e seat before rest act error answers more out last acted (done, l
   then,
   ap (λ (x : List Action). before ++ (x ++ rest)) is ∙ (ap (λ (x : List Action). before ++ x) (append_assoc done left rest) ∙ sym (append_assoc before done (left ++ rest))),
   acts_on s mid then before done answers more out first acted also,
-  lost_later then seat (left ++ rest) answers more error cut (cut_more then seat left rest more error cut why),
+  lost_later shards then seat (left ++ rest) answers more error cut (cut_more shards then seat left rest more error cut why),
   ap (λ (x : List ℕ). out ++ x) written ∙ sym (append_assoc out first cut),
   over,
 )
 
-pub one_fails : (s mid : Worker) (e : SessionState) (seat : SeatState) (all before rest given : List Action) (act : Action) (error : EngineError) (a b d : Option (List ℕ))
-    → all ≡ before ++ (act ∷ rest) → AreDone s before given mid a b → AreStopped mid (act ∷ []) error e seat b d → AreStopped s all error e seat a d
-one_fails s mid e seat all before rest given act error a b d is (answers, out, acted, kept, appended) (more, last, stops, then) = (
+pub one_fails : (shards : ShardsState) (s mid : Worker) (e : SessionState) (seat : SeatState) (all before rest given : List Action) (act : Action) (error : EngineError) (a b d : Option (List ℕ))
+    → all ≡ before ++ (act ∷ rest) → AreDone s before given mid a b → AreStopped shards mid (act ∷ []) error e seat b d → AreStopped shards s all error e seat a d
+one_fails shards s mid e seat all before rest given act error a b d is (answers, out, acted, kept, appended) (more, last, stops, then) = (
   answers ++ more,
   out ++ last,
-  subst (λ (x : List Action). Stops s x error (answers ++ more) (out ++ last) e seat) (sym is)
-      (stops_on s mid e seat before rest act error answers more out last acted stops),
+  subst (λ (x : List Action). Stops shards s x error (answers ++ more) (out ++ last) e seat) (sym is)
+      (stops_on shards s mid e seat before rest act error answers more out last acted stops),
   Appends-trans a b d out last appended then,
 )

@@ -70,7 +70,7 @@ turn_asked : (phase : Phase) (s e : StandingState) (now : ℕ) (acts : List Acti
 turn_asked (phases.New hello c) s e now acts same takes = refl
 turn_asked (phases.Hello greeter bytes c) s e now acts same takes = refl
 turn_asked (phases.Open c) s e now acts same takes =
-    by_cases (λ task. Does task s c now acts e) (s.pace.requested && is_rested s.pace.reopened now) _ _ takes
+    by_cases (λ task. Does task s c now acts e) (c.waits && is_rested s.pace.reopened now) _ _ takes
     (λ begins. by_cases (λ task. Does task s c now acts e) (any_out c.shares) _ _ begins (λ rests. ap none_due rests.0) (λ begun. ap none_due begun.0))
     (λ others. by_cases (λ task. Does task s c now acts e)
     ((c.teaching || has_passed push_time s.pace.opened now) && not (awaits_names (table_to_ask c) s.pace.progress c.shares)) _ _ others

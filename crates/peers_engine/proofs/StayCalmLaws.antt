@@ -2,7 +2,7 @@
 use Rattle.std.proofs.Common.{◌≡◌, ℕ, Bool, true, false, not, ◌&&◌, ◌||◌, List, [], ◌∷◌, ◌++◌, Option, Some, None, refl, sym, ap, ◌∙◌, subst, inl, inr, cond}
 use Rattle.std.specs.Prelude.{◌⊎◌, ◌≢◌}
 use Rattle.std.specs.List.{list_all}
-use Rattle.std.proofs.lemmas.Bool.{false≢true, and_parts, and_from}
+use Rattle.std.proofs.lemmas.Bool.{eq-eqb, false≢true, and_parts, and_from}
 use Rattle.std.proofs.lemmas.List.{append-nil}
 use Rattle.std.proofs.lemmas.List.Folds.{list_all-append}
 use Rattle.std.proofs.lemmas.List.Concat.{flat_map-append}
@@ -24,14 +24,16 @@ use Rattle.session_core.specs.Phases.{Phase}
 use Rattle.session_core.specs.Phases as phases
 use Rattle.session_core.specs.Shares.{any_out, all_quiet, is_out, next_table, out_set, quiet_set}
 use Rattle.session_core.specs.Actions.{reopens}
+use Rattle.session_core.specs.Runs.{copies}
+use Rattle.session_core.proofs.OnlyTurnsCopy.{copied_bytes}
 use Rattle.session_core.specs.Courses.{Course, ack_received, acknowledged, table_to_ask, teaching_anew}
 use Rattle.session_core.specs.Sessions.{SessionState, FinishesResync, GoesIn, GoesOpen, HasNothing, Settles, StartsPendingResync, Turns, going, state_of}
 use Rattle.session_core.specs.Paces.{awaits_names, has_passed, inferred, is_ahead, is_rested, push_time}
-use Rattle.session_core.specs.Standing.{Does, StandingState, Stands, TakesTurn, Ticks, TicksIn, Writes, answer_of_refusal, changed, finished_if, finishing, heartbeats, leaving, put_off, shared, teaches, without_tables}
+use Rattle.session_core.specs.Standing.{Does, StandingState, Stands, TakesTurn, Ticks, TicksIn, Writes, answer_of_refusal, finished_if, finishing, heartbeats, leaving, without_tables}
 use Rattle.peers_engine.specs.Acting.{asked}
 use Rattle.peers_engine.specs.Calls.{IsCopiedLate, IsLearnedLate}
 use Rattle.peers_engine.specs.Doing.{Done}
-use Rattle.peers_engine.specs.Staying.{IsPerformed, IsTold, IsToldIn, Performs, StandingWorker, as_standing, standing_kind, stays}
+use Rattle.peers_engine.specs.Staying.{IsPerformed, IsTold, IsToldIn, Performs, StandingWorker, stays}
 use Rattle.peers_engine.proofs.CalmLaws.{done_answered, is_answer, is_answered}
 
 -- ---- kinds of actions
@@ -183,15 +185,16 @@ stands_mute s now events.Turn acts e mild stands = absurd (false≢true mild)
 stands_mute s now (events.Copied table batch) acts e mild stands = absurd (false≢true mild)
 stands_mute s now (events.Written known) acts e mild stands = absurd (false≢true mild)
 
--- ---- no request waits
+-- ---- no answer begins a resync
 
+-- a request waits for the answer to an acknowledgement
 abbrev waits_of : Phase → Bool
 waits_of (phases.New hello c) = false
 waits_of (phases.Hello greeter bytes c) = false
-waits_of (phases.Open c) = c.waits
+waits_of (phases.Open c) = c.waits && not c.stays
 waits_of phases.Ended = false
 
--- no request waits in the session itself
+-- no request waits so
 abbrev IsFree : StandingState → Type 0
 IsFree s = waits_of s.session.phase ≡ false
 
@@ -199,27 +202,27 @@ waits_at : (e x : SessionState) → e ≡ x → waits_of x.phase ≡ false → w
 waits_at e x is free = subst (λ (y : SessionState). waits_of y.phase ≡ false) (sym is) free
 
 -- an answer leaves none
-finishes_free : (b : Bool) (s : SessionState) (c : Course) (acts : List Action) (e : SessionState) → c.waits ≡ false → FinishesResync b s c acts e → waits_of e.phase ≡ false
+finishes_free : (b : Bool) (s : SessionState) (c : Course) (acts : List Action) (e : SessionState) → (c.waits && not c.stays) ≡ false → FinishesResync b s c acts e → waits_of e.phase ≡ false
 finishes_free true s c acts e free (is, goes) = waits_at e _ goes free
 finishes_free false s c acts e free (is, goes) = waits_at e _ goes free
 
-nothing_free : (b : Bool) (s : SessionState) (c : Course) (table : ℕ) (acts : List Action) (e : SessionState) → c.waits ≡ false → HasNothing b s c table acts e → waits_of e.phase ≡ false
+nothing_free : (b : Bool) (s : SessionState) (c : Course) (table : ℕ) (acts : List Action) (e : SessionState) → (c.waits && not c.stays) ≡ false → HasNothing b s c table acts e → waits_of e.phase ≡ false
 nothing_free true s c table acts e free goes = finishes_free (all_quiet (quiet_set table c.shares)) s (record c { shares = quiet_set table c.shares }) acts e free goes
 nothing_free false s c table acts e free (is, goes) = waits_at e _ goes free
 
-pending_free : (b : Bool) (s : SessionState) (c : Course) (acts : List Action) (e : SessionState) → c.waits ≡ false → StartsPendingResync b s c acts e → waits_of e.phase ≡ false
+pending_free : (b : Bool) (s : SessionState) (c : Course) (acts : List Action) (e : SessionState) → (c.waits && not c.stays) ≡ false → StartsPendingResync b s c acts e → waits_of e.phase ≡ false
 pending_free true s c acts e free (is, goes) = waits_at e _ goes refl
 pending_free false s c acts e free (is, goes) = waits_at e _ goes free
 
-settled_free : (settled : Settled) (s : SessionState) (c : Course) (table : ℕ) (acts : List Action) (e : SessionState) → c.waits ≡ false → Settles settled s c table acts e → waits_of e.phase ≡ false
+settled_free : (settled : Settled) (s : SessionState) (c : Course) (table : ℕ) (acts : List Action) (e : SessionState) → (c.waits && not c.stays) ≡ false → Settles settled s c table acts e → waits_of e.phase ≡ false
 settled_free settles.All s c table acts e free goes = pending_free _ s (record c { shares = out_set table false c.shares }) acts e free goes
 settled_free settles.Some s c table acts e free (is, goes) = waits_at e _ goes free
 settled_free settles.Older s c table acts e free (is, goes) = waits_at e _ goes free
 
-still_free : (c mid : Course) → mid ≡ record c { due = mid.due } → c.waits ≡ false → mid.waits ≡ false
-still_free c mid is free = ap (λ (x : Course). x.waits) is ∙ free
+still_free : (c mid : Course) → mid ≡ record c { due = mid.due } → (c.waits && not c.stays) ≡ false → (mid.waits && not mid.stays) ≡ false
+still_free c mid is free = ap (λ (x : Course). x.waits && not x.stays) is ∙ free
 
-open_free : (s : SessionState) (c : Course) (event : Event) (acts : List Action) (e : SessionState) → is_answer event ≡ true → c.waits ≡ false → GoesOpen s c event acts e → waits_of e.phase ≡ false
+open_free : (s : SessionState) (c : Course) (event : Event) (acts : List Action) (e : SessionState) → is_answer event ≡ true → (c.waits && not c.stays) ≡ false → GoesOpen s c event acts e → waits_of e.phase ≡ false
 open_free s c (events.Copied table batch) acts e is free (mid, answered, copied) = waits_at e _ copied.1 (still_free c mid answered.1 free)
 open_free s c (events.Nothing table) acts e is free (mid, answered, nothing) = nothing_free mid.teaching s mid table acts e (still_free c mid answered.1 free) nothing
 open_free s c (events.Written known) acts e is free (mid, answered, none, goes) = waits_at e _ goes (still_free c mid answered.1 free)
@@ -259,11 +262,11 @@ answer_open (phases.Hello greeter kept c) s events.End acts e is free goes = abs
 answer_open (phases.Hello greeter kept c) s events.ReadFault acts e is free goes = absurd (false≢true is)
 answer_open (phases.Hello greeter kept c) s events.WriteFault acts e is free goes = absurd (false≢true is)
 
-acknowledged_waits : (b : Bool) (c : Course) (table number : ℕ) → (acknowledged b c table number).1.waits ≡ c.waits
+acknowledged_waits : (b : Bool) (c : Course) (table number : ℕ) → ((acknowledged b c table number).1.waits && not (acknowledged b c table number).1.stays) ≡ (c.waits && not c.stays)
 acknowledged_waits true c table number = refl
 acknowledged_waits false c table number = refl
 
-ack_waits : (c : Course) (ack : Option (ℕ × ℕ)) → (ack_received c ack).1.waits ≡ c.waits
+ack_waits : (c : Course) (ack : Option (ℕ × ℕ)) → ((ack_received c ack).1.waits && not (ack_received c ack).1.stays) ≡ (c.waits && not c.stays)
 ack_waits c None = refl
 ack_waits c (Some (table, number)) = acknowledged_waits (is_out table c.shares) c table number
 
@@ -316,11 +319,11 @@ copied_fair (phases.Hello greeter bytes c) s table batch acts e goes = absurd go
 copied_fair (phases.Open c) s table batch acts e (mid, answered, copied) = are_at is_fair acts _ copied.0 refl
 copied_fair phases.Ended s table batch acts e goes = absurd goes
 
--- no copy, unless no request waits
+-- no copy, unless no request waits so
 abbrev IsFairOrFree : List Action → StandingState → Type 0
 IsFairOrFree acts e = (are_fair acts ≡ true) ⊎ IsFree e
 
-turns_ask : (waits : Bool) (next : Option ℕ) (s : SessionState) (c : Course) (acts : List Action) (e : StandingState) → c.waits ≡ waits → Turns (cond waits None next) s c acts e.session → IsFairOrFree acts e
+turns_ask : (waits : Bool) (next : Option ℕ) (s : SessionState) (c : Course) (acts : List Action) (e : StandingState) → (c.waits && not c.stays) ≡ waits → Turns (cond waits None next) s c acts e.session → IsFairOrFree acts e
 turns_ask true next s c acts e waits (is, goes) = inl (are_at is_fair acts _ is refl)
 turns_ask false None s c acts e waits (is, goes) = inl (are_at is_fair acts _ is refl)
 turns_ask false (Some table) s c acts e waits (is, goes) = inr (waits_at e.session _ goes waits)
@@ -328,7 +331,7 @@ turns_ask false (Some table) s c acts e waits (is, goes) = inr (waits_at e.sessi
 turn_asks : (phase : Phase) (s : SessionState) (acts : List Action) (e : StandingState) → GoesIn phase s events.Turn acts e.session → IsFairOrFree acts e
 turn_asks (phases.New hello c) s acts e (is, goes) = inl (are_at is_fair acts _ is refl)
 turn_asks (phases.Hello greeter bytes c) s acts e (is, goes) = inl (are_at is_fair acts _ is refl)
-turn_asks (phases.Open c) s acts e (due, turns) = turns_ask c.waits (next_table c.teaching c.asked c.shares) s c acts e refl turns
+turn_asks (phases.Open c) s acts e (due, turns) = turns_ask (c.waits && not c.stays) (next_table c.teaching c.asked c.shares) s c acts e refl turns
 turn_asks phases.Ended s acts e goes = absurd goes
 
 finished_mute : (b : Bool) (c : Course) → are_mute (finished_if b c).0 ≡ true
@@ -346,7 +349,7 @@ takes_ask : (phase : Phase) (s : StandingState) (now : ℕ) (acts : List Action)
 takes_ask (phases.New hello c) s now acts e (goes, pace) = turn_asks s.session.phase s.session acts e goes
 takes_ask (phases.Hello greeter bytes c) s now acts e (goes, pace) = turn_asks s.session.phase s.session acts e goes
 takes_ask (phases.Open c) s now acts e does =
-    by_cases (λ task. Does task s c now acts e) (s.pace.requested && is_rested s.pace.reopened now) _ _ does
+    by_cases (λ task. Does task s c now acts e) (c.waits && is_rested s.pace.reopened now) _ _ does
     (λ begins. by_cases (λ task. Does task s c now acts e) (any_out c.shares) _ _ begins
     (λ rests. inl (are_at is_fair acts _ rests.1 refl))
     (λ goes. inl (are_at is_fair acts _ goes.1 (fair (reopens c.shares ++ (finishing (teaching_anew c)).0) (both_all is_mute (reopens c.shares) (finishing (teaching_anew c)).0 (reopens_mute c.shares) (finished_mute _ (teaching_anew c)))))))
@@ -356,15 +359,20 @@ takes_ask (phases.Open c) s now acts e does =
     (λ rests. inl (are_at is_fair acts _ rests.1 refl)))
 takes_ask phases.Ended s now acts e (goes, pace) = turn_asks s.session.phase s.session acts e goes
 
--- bytes leave none that waits
-put_off_free : (teaching : Bool) (shares : List Share) (phase : Phase) → waits_of (changed (put_off teaching shares) phase) ≡ false
-put_off_free teaching shares (phases.New hello c) = refl
-put_off_free teaching shares (phases.Hello greeter bytes c) = refl
-put_off_free teaching shares (phases.Open c) = refl
-put_off_free teaching shares phases.Ended = refl
+-- bytes ask for no copy
+fair_of : (acts : List Action) → ((table : ℕ) → copies table acts ≡ false) → are_fair acts ≡ true
+fair_of [] none = refl
+fair_of (actions.Copy table kind ∷ acts) none = absurd (false≢true (sym (none table) ∙ ap (λ (x : Bool). x || copies table acts) (eq-eqb table table refl)))
+fair_of (actions.Send bytes ∷ acts) none = fair_of acts none
+fair_of (actions.Learn u ∷ acts) none = fair_of acts none
+fair_of (actions.Ack table number ∷ acts) none = fair_of acts none
+fair_of (actions.Reopen table ∷ acts) none = fair_of acts none
+fair_of (actions.Teach batch ∷ acts) none = fair_of acts none
+fair_of (actions.Part kind ∷ acts) none = fair_of acts none
+fair_of (actions.Close ∷ acts) none = fair_of acts none
 
 stands_ask : (s : StandingState) (now : ℕ) (event : Event) (acts : List Action) (e : StandingState) → Stands s now event acts e → IsFairOrFree acts e
-stands_ask s now (events.Bytes bytes) acts e (given, mid, goes, is, then, pace) = inr (waits_at e.session _ then (put_off_free (teaches s.session.phase) (shared s.session.phase) mid.phase))
+stands_ask s now (events.Bytes bytes) acts e (goes, pace) = inl (fair_of acts (λ table. copied_bytes table s.session.phase s.session bytes acts e.session goes))
 stands_ask s now events.Turn acts e takes = takes_ask s.session.phase s now acts e takes
 stands_ask s now (events.Copied table batch) acts e (goes, pace) = inl (copied_fair s.session.phase s.session table batch acts e.session goes)
 stands_ask s now (events.Written known) acts e writes = inl (each is_light is_fair light_fair acts (writes_light s.session.phase s e now known acts writes))
@@ -450,10 +458,10 @@ copied_done n now x s t table kind out answer event written some (c, at, is, inr
 
 -- what is performed is done at some moment
 done_at : (w : StandingWorker) (seat : SeatState) (act : Action) (out : List ℕ) (answer : Option Event) → IsPerformed w act out answer seat
-    → (at : ℕ) × Done w.number at w.session.session w.seat (as_standing act) out answer seat
+    → (at : ℕ) × Done w.number at w.session.session w.seat act out answer seat
 done_at w seat (actions.Learn u) out answer (written, none, learned) = learned_done w.number w.now w.session.session w.seat seat u out answer written none learned
 done_at w seat (actions.Copy table kind) out answer (written, event, some, copied) =
-    copied_done w.number w.now w.session.session w.seat seat table (standing_kind kind) out answer event written some copied
+    copied_done w.number w.now w.session.session w.seat seat table kind out answer event written some copied
 done_at w seat (actions.Send bytes) out answer done = (w.now, done)
 done_at w seat (actions.Ack table number) out answer done = (w.now, done)
 done_at w seat (actions.Reopen table) out answer done = (w.now, done)
@@ -461,7 +469,7 @@ done_at w seat (actions.Teach batch) out answer done = (w.now, done)
 done_at w seat (actions.Part kind) out answer done = (w.now, done)
 done_at w seat actions.Close out answer done = (w.now, done)
 
-mute_done : (n at : ℕ) (x : SessionState) (s t : SeatState) (act : Action) (out : List ℕ) (answer : Option Event) → is_mute act ≡ true → Done n at x s (as_standing act) out answer t → answer ≡ None
+mute_done : (n at : ℕ) (x : SessionState) (s t : SeatState) (act : Action) (out : List ℕ) (answer : Option Event) → is_mute act ≡ true → Done n at x s act out answer t → answer ≡ None
 mute_done n at x s t (actions.Send bytes) out answer mute (written, none, same) = none
 mute_done n at x s t (actions.Learn u) out answer mute (written, none, learned) = none
 mute_done n at x s t (actions.Reopen table) out answer mute (written, none, reopened) = none
@@ -471,7 +479,7 @@ mute_done n at x s t (actions.Ack table number) out answer mute done = absurd (f
 mute_done n at x s t (actions.Copy table kind) out answer mute done = absurd (false≢true mute)
 mute_done n at x s t (actions.Teach batch) out answer mute done = absurd (false≢true mute)
 
-light_done : (n at : ℕ) (x : SessionState) (s t : SeatState) (act : Action) (out : List ℕ) (answer : Option Event) → is_light act ≡ true → Done n at x s (as_standing act) out answer t → is_mild_answer answer ≡ true
+light_done : (n at : ℕ) (x : SessionState) (s t : SeatState) (act : Action) (out : List ℕ) (answer : Option Event) → is_light act ≡ true → Done n at x s act out answer t → is_mild_answer answer ≡ true
 light_done n at x s t (actions.Send bytes) out answer light (written, none, same) = ap is_mild_answer none
 light_done n at x s t (actions.Learn u) out answer light (written, none, learned) = ap is_mild_answer none
 light_done n at x s t (actions.Reopen table) out answer light (written, none, reopened) = ap is_mild_answer none
@@ -496,7 +504,7 @@ mild_late (Some (events.Bytes bytes)) mild = mild
 mild_late (Some events.Turn) mild = mild
 mild_late (Some (events.Copied table batch)) mild = mild
 
-fair_done : (n at : ℕ) (x : SessionState) (s t : SeatState) (act : Action) (out : List ℕ) (answer : Option Event) → is_fair act ≡ true → Done n at x s (as_standing act) out answer t → is_late_answer answer ≡ true
+fair_done : (n at : ℕ) (x : SessionState) (s t : SeatState) (act : Action) (out : List ℕ) (answer : Option Event) → is_fair act ≡ true → Done n at x s act out answer t → is_late_answer answer ≡ true
 fair_done n at x s t (actions.Teach batch) out answer fair (after, lesson, is, settled) = ap is_late_answer is
 fair_done n at x s t (actions.Copy table kind) out answer fair done = absurd (false≢true fair)
 fair_done n at x s t (actions.Send bytes) out answer fair done = mild_late answer (light_done n at x s t (actions.Send bytes) out answer refl done)
@@ -580,7 +588,7 @@ any_performed w e [] answers out (none, nothing, same) = asks_none is_fair answe
 any_performed w e (act ∷ acts) answers out (bytes, more, answer, first, rest, seat, mid, performed, told, after, is, written) =
     let done = done_at w seat act bytes answer performed in
     asked_of is_fair answers first rest is
-    (told_fair w.session w.now answer first mid (done_answered w.number done.0 w.session.session w.seat seat (as_standing act) bytes answer done.1) told)
+    (told_fair w.session w.now answer first mid (done_answered w.number done.0 w.session.session w.seat seat act bytes answer done.1) told)
     (any_performed (stays w mid seat) e acts rest more after)
 
 free_performed : (w e : StandingWorker) (acts : List Action) (answers : List (Event × List Action)) (out : List ℕ) → IsFree w.session → Performs w acts answers out e → IsFree e.session
@@ -588,7 +596,7 @@ free_performed w e [] answers out free (none, nothing, same) = free_as w.session
 free_performed w e (act ∷ acts) answers out free (bytes, more, answer, first, rest, seat, mid, performed, told, after, is, written) =
     let done = done_at w seat act bytes answer performed in
     free_performed (stays w mid seat) e acts rest more
-    (told_free w.session w.now answer first mid (done_answered w.number done.0 w.session.session w.seat seat (as_standing act) bytes answer done.1) free told) after
+    (told_free w.session w.now answer first mid (done_answered w.number done.0 w.session.session w.seat seat act bytes answer done.1) free told) after
 
 -- ---- acknowledgements while no request waits
 
@@ -600,9 +608,14 @@ pending_none : (b : Bool) (s : SessionState) (c : Course) (acts : List Action) (
 pending_none true s c acts e is goes = absurd (false≢true (sym is))
 pending_none false s c acts e is (none, goes) = none
 
-settled_none : (settled : Settled) (s : SessionState) (c : Course) (table : ℕ) (acts : List Action) (e : SessionState) → c.waits ≡ false → Settles settled s c table acts e → acts ≡ []
+held_none : (waits stays out : Bool) → (waits && not stays) ≡ false → (waits && not (stays || out)) ≡ false
+held_none false stays out free = refl
+held_none true true out free = refl
+held_none true false out free = absurd (false≢true (sym free))
+
+settled_none : (settled : Settled) (s : SessionState) (c : Course) (table : ℕ) (acts : List Action) (e : SessionState) → (c.waits && not c.stays) ≡ false → Settles settled s c table acts e → acts ≡ []
 settled_none settles.All s c table acts e free goes =
-    pending_none _ s (record c { shares = out_set table false c.shares }) acts e (ap (λ (x : Bool). x && not (any_out (out_set table false c.shares))) free) goes
+    pending_none _ s (record c { shares = out_set table false c.shares }) acts e (held_none c.waits c.stays (any_out (out_set table false c.shares)) free) goes
 settled_none settles.Some s c table acts e free (none, goes) = none
 settled_none settles.Older s c table acts e free (none, goes) = none
 
@@ -646,7 +659,7 @@ told_as_some : (s : StandingState) (now : ℕ) (answer : Option Event) (event : 
 told_as_some s now answer event steps e is told = subst (λ (x : Option Event). IsTold s now x steps e) is told
 
 light_told : (n at now : ℕ) (x : SessionState) (t u : SeatState) (act : Action) (s e : StandingState) (answer : Option Event) (steps : List (Event × List Action)) (out : List ℕ)
-    → is_light act ≡ true → IsFree s → Done n at x t (as_standing act) out answer u → IsTold s now answer steps e → IsNothingOrPart (asked steps) e.session
+    → is_light act ≡ true → IsFree s → Done n at x t act out answer u → IsTold s now answer steps e → IsNothingOrPart (asked steps) e.session
 light_told n at now x t u (actions.Send bytes) s e answer steps out light free (written, none, same) told = none_told s now answer steps e none told
 light_told n at now x t u (actions.Learn row) s e answer steps out light free (written, none, learned) told = none_told s now answer steps e none told
 light_told n at now x t u (actions.Reopen table) s e answer steps out light free (written, none, reopened) told = none_told s now answer steps e none told
@@ -686,7 +699,7 @@ acks_performed w e (act ∷ acts) answers out light free (bytes, more, answer, f
       | inl none ↦
           at_asked (asked answers) (asked rest) e.session.session (joined ∙ ap (λ (x : List Action). x ++ asked rest) none)
           (acks_performed (stays w mid seat) e acts rest more both.1
-          (told_free w.session w.now answer first mid (done_answered w.number done.0 w.session.session w.seat seat (as_standing act) bytes answer done.1) free told) after)
+          (told_free w.session w.now answer first mid (done_answered w.number done.0 w.session.session w.seat seat act bytes answer done.1) free told) after)
       | inr part ↦
           let over = over_performed (stays w mid seat) e acts rest more part.1 after in
           inr (joined ∙ (ap (λ (x : List Action). asked first ++ x) (ap asked over.0) ∙ (append-nil (asked first) ∙ part.0)), over.1)

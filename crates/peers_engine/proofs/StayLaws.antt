@@ -22,7 +22,7 @@ use Rattle.session_core.specs.Standing.{StandingState, Stands, Ticks}
 use Rattle.peers_engine.specs.Acting.{asked}
 use Rattle.peers_engine.specs.Calls.{IsCopiedLate, IsLearnedLate, IsReopened, IsSettled, IsTaken, opened_with}
 use Rattle.peers_engine.specs.Reading.{IsRead}
-use Rattle.peers_engine.specs.Staying.{AreReopened, IsPerformed, IsTold, IsToldIn, Performs, Responds, RespondsTo, StandingWorker, TakesStandingTurn, TakesTick, standing_kind, stays, without_request}
+use Rattle.peers_engine.specs.Staying.{AreReopened, IsPerformed, IsTold, IsToldIn, Performs, Responds, RespondsTo, StandingWorker, TakesStandingTurn, TakesTick, stays}
 use Rattle.peers_engine.specs.Turns.{first_event}
 use Rattle.peers_engine.proofs.AnswerLaws.{ack_done, send_done, teach_done}
 use Rattle.peers_engine.proofs.StayCalmLaws.{tick_ends}
@@ -39,10 +39,10 @@ performed_as w seat action act answer old new is done = subst (λ (a : Action). 
 
 -- bytes that are written
 pub bytes_sent : (w : StandingWorker) (action : Action) (bytes sent : List ℕ) (old new : Option (List ℕ))
-    → action ≡ actions.Send bytes → sent ≡ bytes → Appends old new (without_request sent) → HasPerformed w action None w.seat old new
+    → action ≡ actions.Send bytes → sent ≡ bytes → Appends old new sent → HasPerformed w action None w.seat old new
 bytes_sent w action bytes sent old new is same appended =
     performed_as w w.seat action (actions.Send bytes) None old new is
-    (send_done w.number w.now w.session.session w.seat (actions.Send (without_request bytes)) (without_request bytes) (without_request sent) old new refl (ap without_request same) appended)
+    (send_done w.number w.now w.session.session w.seat (actions.Send bytes) bytes sent old new refl same appended)
 
 -- a row that is learned
 pub row_learned : (w : StandingWorker) (seat : SeatState) (action : Action) (u : Update) (known : Option (List ℕ))
@@ -51,12 +51,11 @@ row_learned w seat action u known is learned =
     performed_as w seat action (actions.Learn u) None known known is ([], (refl, refl, learned), Appends-nil known)
 
 -- a batch that is copied
-pub batch_copied : (w : StandingWorker) (seat : SeatState) (action : Action) (table : ℕ) (kind asked_for : CopyKind) (known : Option (List ℕ)) (event : Event)
-    → action ≡ actions.Copy table kind → asked_for ≡ standing_kind kind → IsCopiedLate w.number w.now w.seat table asked_for seat event
+pub batch_copied : (w : StandingWorker) (seat : SeatState) (action : Action) (table : ℕ) (kind : CopyKind) (known : Option (List ℕ)) (event : Event)
+    → action ≡ actions.Copy table kind → IsCopiedLate w.number w.now w.seat table kind seat event
     → HasPerformed w action (Some event) seat known known
-batch_copied w seat action table kind asked_for known event is same copied =
-    let at_kind = subst (λ (k : CopyKind). IsCopiedLate w.number w.now w.seat table k seat event) same copied in
-    performed_as w seat action (actions.Copy table kind) (Some event) known known is ([], (refl, event, refl, at_kind), Appends-nil known)
+batch_copied w seat action table kind known event is copied =
+    performed_as w seat action (actions.Copy table kind) (Some event) known known is ([], (refl, event, refl, copied), Appends-nil known)
 
 -- an acknowledgement that is passed on
 pub ack_passed_on : (w : StandingWorker) (seat : SeatState) (action : Action) (table number : ℕ) (known : Option (List ℕ)) (event : Event)

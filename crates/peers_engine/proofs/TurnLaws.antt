@@ -5,6 +5,8 @@ use Rattle.std.specs.List.{list_all}
 use Rattle.std.specs.Io.KnownBytes.{Appends, Consumes}
 use Rattle.std.proofs.KnownBytes.{Appends-trans, Consumes-nil}
 use Rattle.table_shards.specs.Receipts.{SeatState}
+use Rattle.table_shards.specs.Rounds.{ShardsState}
+use Rattle.table_cell.specs.Histories.{CellState}
 use Rattle.session_core.specs.declared.action.Action.{Action}
 use Rattle.session_core.specs.declared.error.SessionError.{SessionError}
 use Rattle.session_core.specs.declared.error.SessionError.TheVariants as refusals
@@ -30,38 +32,38 @@ AreDone s acts given e old new =
     (answers : List (Event × List Action)) × (out : List ℕ) × Acts s acts answers out e × (given ≡ asked answers) × Appends old new out
 
 -- the same, up to an error
-abbrev pub AreStopped : Worker → List Action → EngineError → SessionState → SeatState → Option (List ℕ) → Option (List ℕ) → Type 0
-AreStopped s acts error e seat old new =
-    (answers : List (Event × List Action)) × (out : List ℕ) × Stops s acts error answers out e seat × Appends old new out
+abbrev pub AreStopped : ShardsState → Worker → List Action → EngineError → SessionState → SeatState → Option (List ℕ) → Option (List ℕ) → Type 0
+AreStopped shards s acts error e seat old new =
+    (answers : List (Event × List Action)) × (out : List ℕ) × Stops shards s acts error answers out e seat × Appends old new out
 
 -- one action is performed
 abbrev pub OneDone : ℕ → ℕ → SessionState → SeatState → SeatState → Action → Option (List ℕ) → Option (List ℕ) → Option Event → Type 0
 OneDone n now x s t act old new answer = (out : List ℕ) × Done n now x s act out answer t × Appends old new out
 
 -- one action fails
-abbrev pub OneFails : ℕ → ℕ → SessionState → SeatState → SeatState → Action → Option (List ℕ) → Option (List ℕ) → EngineError → Type 0
-OneFails n now x s t act old new error = (out : List ℕ) × Fails n now x s act error out t × Appends old new out
+abbrev pub OneFails : ShardsState → (CellState → ℕ) → ℕ → ℕ → SessionState → SeatState → SeatState → Action → Option (List ℕ) → Option (List ℕ) → EngineError → Type 0
+OneFails shards moments n now x s t act old new error = (out : List ℕ) × Fails shards moments n now x s act error out t × Appends old new out
 
 -- a session that isn't over doesn't go on after an answer
 abbrev pub IsNotGiven : SessionState → Option Event → SessionState → EngineError → Type 0
 IsNotGiven s answer e error = (event : Event) × (answer ≡ Some event) × (state_of s.phase ≢ states.Ended) × DoesNotGoOn s event error e
 
 -- the next action fails
-pub next_fails : (s mid : Worker) (seat : SeatState) (x : SessionState) (all before rest given : List Action) (act : Action) (error : EngineError) (a b d : Option (List ℕ))
-    → all ≡ before ++ (act ∷ rest) → x ≡ mid.session → AreDone s before given mid a b → OneFails mid.number mid.now x mid.seat seat act b d error → AreStopped s all error mid.session seat a d
-next_fails s mid seat x all before rest given act error a b d is same (answers, out, acted, kept, appended) (last, fails, more) = (
+pub next_fails : (shards : ShardsState) (s mid : Worker) (seat : SeatState) (x : SessionState) (all before rest given : List Action) (act : Action) (error : EngineError) (a b d : Option (List ℕ))
+    → all ≡ before ++ (act ∷ rest) → x ≡ mid.session → AreDone s before given mid a b → OneFails shards (λ c. mid.now) mid.number mid.now x mid.seat seat act b d error → AreStopped shards s all error mid.session seat a d
+next_fails shards s mid seat x all before rest given act error a b d is same (answers, out, acted, kept, appended) (last, fails, more) = (
   answers,
   out ++ last,
-  act_stops s mid seat all before rest act error answers out last is acted (subst (λ (y : SessionState). Fails mid.number mid.now y mid.seat act error last seat) same fails),
+  act_stops shards s mid seat all before rest act error answers out last is acted (subst (λ (y : SessionState). Fails shards (λ c. mid.now) mid.number mid.now y mid.seat act error last seat) same fails),
   Appends-trans a b d out last appended more,
 )
 
 -- the session doesn't go on after the answer of the next action
-pub give_fails : (s mid : Worker) (e : SessionState) (seat : SeatState) (x : SessionState) (all before rest given : List Action) (act : Action) (answer : Option Event) (error : EngineError) (a b d : Option (List ℕ))
+pub give_fails : (shards : ShardsState) (s mid : Worker) (e : SessionState) (seat : SeatState) (x : SessionState) (all before rest given : List Action) (act : Action) (answer : Option Event) (error : EngineError) (a b d : Option (List ℕ))
     → all ≡ before ++ (act ∷ rest) → x ≡ mid.session → AreDone s before given mid a b → OneDone mid.number mid.now x mid.seat seat act b d answer → IsNotGiven mid.session answer e error
-    → AreStopped s all error e seat a d
-give_fails s mid e seat x all before rest given act answer error a b d is same (answers, out, acted, kept, appended) (bytes, done, more) (event, some, going, stuck) =
-    let stops = give_stops s mid e seat all before rest act answer event error answers out bytes is acted
+    → AreStopped shards s all error e seat a d
+give_fails shards s mid e seat x all before rest given act answer error a b d is same (answers, out, acted, kept, appended) (bytes, done, more) (event, some, going, stuck) =
+    let stops = give_stops shards s mid e seat all before rest act answer event error answers out bytes is acted
     (subst (λ (y : SessionState). Done mid.number mid.now y mid.seat act bytes answer seat) same done) some going stuck in
     (stops.0, out ++ bytes, stops.1, Appends-trans a b d out bytes appended more)
 
@@ -70,20 +72,20 @@ give_fails s mid e seat x all before rest given act answer error a b d is same (
 abbrev pub HasReacted : Worker → Event → Worker → Option (List ℕ) → Option (List ℕ) → Type 0
 HasReacted s event e old new = (out : List ℕ) × Reacts s event out e × Appends old new out
 
-abbrev pub HasHalted : Worker → Event → SessionState → SeatState → Option (List ℕ) → Option (List ℕ) → EngineError → Type 0
-HasHalted s event e seat old new error = (out : List ℕ) × Halts s event error out e seat × Appends old new out
+abbrev pub HasHalted : ShardsState → Worker → Event → SessionState → SeatState → Option (List ℕ) → Option (List ℕ) → EngineError → Type 0
+HasHalted shards s event e seat old new error = (out : List ℕ) × Halts shards s event error out e seat × Appends old new out
 
 -- an error among what the event asked for
-pub first_fails : (s : Worker) (mid e : SessionState) (seat : SeatState) (event : Event) (acts : List Action) (error : EngineError) (a b : Option (List ℕ))
-    → Goes s.session event acts mid → AreStopped (stands s mid s.seat) acts error e seat a b → HasHalted s event e seat a b error
-first_fails s mid e seat event acts error a b goes (answers, out, stops, appended) = (out, react_stops s mid e seat event acts error answers out goes stops, appended)
+pub first_fails : (shards : ShardsState) (s : Worker) (mid e : SessionState) (seat : SeatState) (event : Event) (acts : List Action) (error : EngineError) (a b : Option (List ℕ))
+    → Goes s.session event acts mid → AreStopped shards (stands s mid s.seat) acts error e seat a b → HasHalted shards s event e seat a b error
+first_fails shards s mid e seat event acts error a b goes (answers, out, stops, appended) = (out, react_stops shards s mid e seat event acts error answers out goes stops, appended)
 
 -- an error among what the answers asked for
-pub second_fails : (s next : Worker) (mid e : SessionState) (seat : SeatState) (event : Event) (acts given : List Action) (error : EngineError) (a b d : Option (List ℕ))
-    → Goes s.session event acts mid → AreDone (stands s mid s.seat) acts given next a b → AreStopped next given error e seat b d → HasHalted s event e seat a d error
-second_fails s next mid e seat event acts given error a b d goes (answers, out, acted, kept, appended) (more, rest, stops, then) = (
+pub second_fails : (shards : ShardsState) (s next : Worker) (mid e : SessionState) (seat : SeatState) (event : Event) (acts given : List Action) (error : EngineError) (a b d : Option (List ℕ))
+    → Goes s.session event acts mid → AreDone (stands s mid s.seat) acts given next a b → AreStopped shards next given error e seat b d → HasHalted shards s event e seat a d error
+second_fails shards s next mid e seat event acts given error a b d goes (answers, out, acted, kept, appended) (more, rest, stops, then) = (
   out ++ rest,
-  react_stops_later s next mid e seat event acts error answers more out rest goes acted (subst (λ (x : List Action). Stops next x error more rest e seat) kept stops),
+  react_stops_later shards s next mid e seat event acts error answers more out rest goes acted (subst (λ (x : List Action). Stops shards next x error more rest e seat) kept stops),
   Appends-trans a b d out rest appended then,
 )
 
@@ -121,15 +123,15 @@ abbrev pub HasTurned : Type 0 → Type 0 → Worker → Worker → Option (List 
 HasTurned at_end untouched s e from to a b =
     (received : Option Event) × (read out : List ℕ) × IsRead at_end received read × TakesTurn untouched s received out e × Consumes from to read × Appends a b out
 
-abbrev pub HasStopped : Type 0 → Type 0 → Worker → SessionState → SeatState → Option (List ℕ) → Option (List ℕ) → Option (List ℕ) → Option (List ℕ) → EngineError → Type 0
-HasStopped at_end untouched s e seat from to a b error =
-    (received : Option Event) × (read out : List ℕ) × IsRead at_end received read × StopsTurn untouched s received error out e seat × Consumes from to read × Appends a b out
+abbrev pub HasStopped : ShardsState → Type 0 → Type 0 → Worker → SessionState → SeatState → Option (List ℕ) → Option (List ℕ) → Option (List ℕ) → Option (List ℕ) → EngineError → Type 0
+HasStopped shards at_end untouched s e seat from to a b error =
+    (received : Option Event) × (read out : List ℕ) × IsRead at_end received read × StopsTurn shards untouched s received error out e seat × Consumes from to read × Appends a b out
 
 -- the event that was read is received, up to an error
-pub read_fails : {at_end : Type 0} (s : Worker) (e : SessionState) (seat : SeatState) (found : Option Event) (event : Event) (error : EngineError) (from to a b : Option (List ℕ))
-    → found ≡ Some event → ((read : List ℕ) × IsRead at_end found read × Consumes from to read) → HasHalted s event e seat a b error
-    → (received : Option Event) × (read out : List ℕ) × IsRead at_end received read × HaltsAt s received error out e seat × Consumes from to read × Appends a b out
-read_fails {at_end} s e seat found event error from to a b is (read, reads, consumed) (out, halts, appended) =
+pub read_fails : (shards : ShardsState) {at_end : Type 0} (s : Worker) (e : SessionState) (seat : SeatState) (found : Option Event) (event : Event) (error : EngineError) (from to a b : Option (List ℕ))
+    → found ≡ Some event → ((read : List ℕ) × IsRead at_end found read × Consumes from to read) → HasHalted shards s event e seat a b error
+    → (received : Option Event) × (read out : List ℕ) × IsRead at_end received read × HaltsAt shards s received error out e seat × Consumes from to read × Appends a b out
+read_fails shards {at_end} s e seat found event error from to a b is (read, reads, consumed) (out, halts, appended) =
     (Some event, read, out, subst (λ (x : Option Event). IsRead at_end x read) is reads, halts, consumed, appended)
 
 -- the first event leaves nothing to do, and then the turn reads
@@ -139,10 +141,10 @@ pub then_done : {at_end untouched : Type 0} (s mid e : Worker) (event : Event) (
 then_done s mid e event from to a b d is (idles, silent) (received, read, out, reads, receives, consumed, more) =
     (received, read, out, reads, inr (mid, subst (λ (x : Event). Idles s x mid) is idles, receives), consumed, Appends-trans a b d [] out silent more)
 
-pub then_fails : {at_end untouched : Type 0} (s mid : Worker) (e : SessionState) (seat : SeatState) (event : Event) (error : EngineError) (from to a b d : Option (List ℕ)) → event ≡ first_event (state_of s.session.phase) → HasIdled s event mid a b
-    → ((received : Option Event) × (read out : List ℕ) × IsRead at_end received read × HaltsAt mid received error out e seat × Consumes from to read × Appends b d out)
-    → HasStopped at_end untouched s e seat from to a d error
-then_fails s mid e seat event error from to a b d is (idles, silent) (received, read, out, reads, halts, consumed, more) =
+pub then_fails : (shards : ShardsState) {at_end untouched : Type 0} (s mid : Worker) (e : SessionState) (seat : SeatState) (event : Event) (error : EngineError) (from to a b d : Option (List ℕ)) → event ≡ first_event (state_of s.session.phase) → HasIdled s event mid a b
+    → ((received : Option Event) × (read out : List ℕ) × IsRead at_end received read × HaltsAt shards mid received error out e seat × Consumes from to read × Appends b d out)
+    → HasStopped shards at_end untouched s e seat from to a d error
+then_fails shards s mid e seat event error from to a b d is (idles, silent) (received, read, out, reads, halts, consumed, more) =
     (received, read, out, reads, inr (mid, subst (λ (x : Event). Idles s x mid) is idles, halts), consumed, Appends-trans a b d [] out silent more)
 
 -- the first event alone, without using the reader
@@ -150,21 +152,21 @@ pub alone_done : {at_end untouched : Type 0} (s e : Worker) (event : Event) (kno
 alone_done s e event known a b is (out, reacts, appended) still =
     (None, [], out, refl, inl (still, refl, subst (λ (x : Event). Reacts s x out e) is reacts), Consumes-nil known, appended)
 
-pub alone_fails : {at_end untouched : Type 0} (s : Worker) (e : SessionState) (seat : SeatState) (event : Event) (error : EngineError) (known a b : Option (List ℕ)) → event ≡ first_event (state_of s.session.phase) → HasHalted s event e seat a b error
-    → untouched → HasStopped at_end untouched s e seat known known a b error
-alone_fails s e seat event error known a b is (out, halts, appended) still =
-    (None, [], out, refl, inl (still, refl, subst (λ (x : Event). Halts s x error out e seat) is halts), Consumes-nil known, appended)
+pub alone_fails : (shards : ShardsState) {at_end untouched : Type 0} (s : Worker) (e : SessionState) (seat : SeatState) (event : Event) (error : EngineError) (known a b : Option (List ℕ)) → event ≡ first_event (state_of s.session.phase) → HasHalted shards s event e seat a b error
+    → untouched → HasStopped shards at_end untouched s e seat known known a b error
+alone_fails shards s e seat event error known a b is (out, halts, appended) still =
+    (None, [], out, refl, inl (still, refl, subst (λ (x : Event). Halts shards s x error out e seat) is halts), Consumes-nil known, appended)
 
 -- the session after a turn
 pub turned : {at_end untouched : Type 0} (s e : Worker) (from to a b : Option (List ℕ)) → HasTurned at_end untouched s e from to a b → Turns s.session e.session
 turned s e from to a b (received, read, out, reads, all, consumed, appended) = turns_of s e received out all
 
-pub broken : {at_end untouched : Type 0} (s : Worker) (e new : SessionState) (seat : SeatState) (error : EngineError) (from to a b : Option (List ℕ)) → HasStopped at_end untouched s e seat from to a b error → new ≡ ended e → Breaks s.session new
-broken s e new seat error from to a b (received, read, out, reads, stops, consumed, appended) is = breaks_of s e new seat received error out stops is
+pub broken : (shards : ShardsState) {at_end untouched : Type 0} (s : Worker) (e new : SessionState) (seat : SeatState) (error : EngineError) (from to a b : Option (List ℕ)) → HasStopped shards at_end untouched s e seat from to a b error → new ≡ ended e → Breaks s.session new
+broken shards s e new seat error from to a b (received, read, out, reads, stops, consumed, appended) is = breaks_of shards s e new seat received error out stops is
 
-pub stopped : {at_end untouched : Type 0} (s : Worker) (e new : SessionState) (seat : SeatState) (error : EngineError) (from to a b : Option (List ℕ)) → HasStopped at_end untouched s e seat from to a b error → new ≡ ended e → HasStopped at_end untouched s new seat from to a b error
-stopped s e new seat error from to a b (received, read, out, reads, stops, consumed, appended) is =
-    (received, read, out, reads, halted s e new seat received error out stops is, consumed, appended)
+pub stopped : (shards : ShardsState) {at_end untouched : Type 0} (s : Worker) (e new : SessionState) (seat : SeatState) (error : EngineError) (from to a b : Option (List ℕ)) → HasStopped shards at_end untouched s e seat from to a b error → new ≡ ended e → HasStopped shards at_end untouched s new seat from to a b error
+stopped shards s e new seat error from to a b (received, read, out, reads, stops, consumed, appended) is =
+    (received, read, out, reads, halted shards s e new seat received error out stops is, consumed, appended)
 
 -- ---- a session that is over
 

@@ -2,6 +2,7 @@
 use Rattle.std.specs.Prelude.{◌≡◌, ◌≢◌, ◌⊎◌, ℕ, List, [], ◌∷◌, ◌++◌, Option, Some, None}
 use Rattle.std.specs.List.{flat_map}
 use Rattle.table_shards.specs.Receipts.{SeatState}
+use Rattle.table_shards.specs.Rounds.{ShardsState}
 use Rattle.session_core.specs.declared.action.Action.{Action}
 use Rattle.session_core.specs.declared.error.SessionError.{SessionError}
 use Rattle.session_core.specs.declared.event.Event.{Event}
@@ -71,10 +72,10 @@ DoesNotGoOn s event error e =
 
 -- Why the first of the remaining actions was the last, what was written for it, and how it left the seat: it failed; or
 -- it succeeded, and the session refused its answer.
-abbrev pub IsCut : Worker → List Action → EngineError → List ℕ → SeatState → Type 0
-IsCut w [] error out seat = ⊥
-IsCut w (act ∷ rest) error out seat =
-    Fails w.number w.now w.session w.seat act error out seat
+abbrev pub IsCut : ShardsState → Worker → List Action → EngineError → List ℕ → SeatState → Type 0
+IsCut shards w [] error out seat = ⊥
+IsCut shards w (act ∷ rest) error out seat =
+    Fails shards (λ c. w.now) w.number w.now w.session w.seat act error out seat
     ⊎ ((answer : Event) × Done w.number w.now w.session w.seat act out (Some answer) seat
     × (state_of w.session.phase ≢ states.Ended) × IsRefused w.session answer error)
 
@@ -84,13 +85,13 @@ IsLost answers error out = (answers ≢ []) × (error ≡ errors.Memory) × (out
 
 -- The actions up to one were performed, and then an error came: what was written, the session, except that it is then
 -- over, and the seat as it is then.
-abbrev pub Stops : Worker → List Action → EngineError → List (Event × List Action) → List ℕ → SessionState → SeatState → Type 0
-Stops w acts error answers out e seat =
+abbrev pub Stops : ShardsState → Worker → List Action → EngineError → List (Event × List Action) → List ℕ → SessionState → SeatState → Type 0
+Stops shards w acts error answers out e seat =
     (before rest : List Action)
     × (first last : List ℕ)
     × (mid : Worker)
     × (acts ≡ before ++ rest)
     × Acts w before answers first mid
-    × (IsCut mid rest error last seat ⊎ (IsLost answers error last × (seat ≡ mid.seat)))
+    × (IsCut shards mid rest error last seat ⊎ (IsLost answers error last × (seat ≡ mid.seat)))
     × (out ≡ first ++ last)
     × (ended e ≡ ended mid.session)

@@ -3,12 +3,15 @@ use Rattle.std.specs.Prelude.{◌≡◌, ◌⊎◌, ◌<◌, ℕ, List, [], ◌�
 use Rattle.std.specs.Io.KnownBytes.{Appends}
 use Rattle.table_types.specs.declared.update.Update.{Update}
 use Rattle.table_types.specs.declared.copies.Settled.{Settled}
+use Rattle.table_types.specs.Batches.{IsBatchFor}
 use Rattle.peers_msg.specs.declared.control.ErrorKind.{ErrorKind}
 use Rattle.peers_msg.specs.Spelling.{error_type}
+use Rattle.table_cell.specs.Histories.{CellState}
 use Rattle.table_cell.specs.declared.errors.AckError.TheVariants as acks
 use Rattle.table_cell.specs.declared.errors.CopyError.TheVariants as copies
 use Rattle.table_shards.specs.declared.errors.ShardError.TheVariants as shards
 use Rattle.table_shards.specs.Receipts.{SeatState}
+use Rattle.table_shards.specs.Rounds.{ShardsState}
 use Rattle.known_state.specs.Known.{KnownState}
 use Rattle.teach_writer.specs.Lessons.{IsShortestLesson}
 use Rattle.session_core.specs.declared.action.Action.{Action}
@@ -16,7 +19,7 @@ use Rattle.session_core.specs.declared.action.Action.TheVariants as actions
 use Rattle.session_core.specs.declared.event.Event.{Event}
 use Rattle.session_core.specs.declared.event.Event.TheVariants as events
 use Rattle.session_core.specs.Sessions.{SessionState}
-use Rattle.peers_engine.specs.Calls.{CallsAck, CallsClose, CallsCopy, IsLearned, IsReopened, IsSettled, opened_with}
+use Rattle.peers_engine.specs.Calls.{CallsAck, CallsClose, CallsCopy, IsLearned, IsReopened, IsSettled, IsUncopied, IsUnlearned, IsUnopened, IsUnsettled, IsUntaken, opened_with}
 use Rattle.peers_engine.specs.declared.errors.EngineError.{EngineError}
 use Rattle.peers_engine.specs.declared.errors.EngineError.TheVariants as errors
 
@@ -41,11 +44,22 @@ Done n now x s (actions.Teach batch) out answer t =
 Done n now x s (actions.Part kind) out answer t = (out ≡ error_text kind) × (answer ≡ None) × (t ≡ s)
 Done n now x s actions.Close out answer t = (out ≡ []) × (answer ≡ None) × (t ≡ s)
 
--- the error if a table refuses an action, or if memory runs out
-abbrev pub IsRefusal : EngineError → Type 0
-IsRefusal errors.Memory = Unit {0}
-IsRefusal errors.Strange = Unit {0}
-IsRefusal error = ⊥
+-- The error of what isn't done: `Memory`, which no clause denies, or `Strange` for the cause given.
+abbrev pub IsRefusal : Type 0 → EngineError → Type 0
+IsRefusal cause errors.Memory = Unit {0}
+IsRefusal cause errors.Strange = cause
+IsRefusal cause error = ⊥
+
+-- Why an action of session `n`, which is `x`, is `Strange`: its table is missing or refuses it, and then leaves the seat; or the
+-- batch of a lesson isn't one for the session's tables. On a cell `c`, a row is learned and a batch copied at the moment `at c`.
+abbrev pub IsStrange : ShardsState → (CellState → ℕ) → ℕ → SessionState → SeatState → Action → SeatState → Type 0
+IsStrange shards at n x s (actions.Learn u) t = IsUnlearned shards at n s u t
+IsStrange shards at n x s (actions.Ack table number) t = IsUntaken shards n s table number t
+IsStrange shards at n x s (actions.Reopen table) t = IsUnopened shards n (opened_with x.version) s table t
+IsStrange shards at n x s (actions.Copy table kind) t = IsUncopied shards at n s table kind t
+IsStrange shards at n x s (actions.Teach batch) t =
+    ((IsBatchFor x.known.roster batch → ⊥) × (t ≡ s)) ⊎ IsUnsettled shards n s batch t
+IsStrange shards at n x s act t = ⊥
 
 -- an action that calls a table; a lesson calls it to test that its batch is the session's latest one
 abbrev pub IsAtTable : Action → Type 0
@@ -66,8 +80,8 @@ IsLeft n s (actions.Reopen table) t = (t ≡ s) ⊎ CallsClose n s table (Ok tt)
 IsLeft n s act t = t ≡ s
 
 -- a table refuses an action, or memory runs out for it, and nothing is written
-abbrev pub IsUndone : ℕ → SeatState → Action → EngineError → List ℕ → SeatState → Type 0
-IsUndone n s act error out t = IsRefusal error × IsAtTable act × (out ≡ []) × IsLeft n s act t
+abbrev pub IsUndone : ShardsState → (CellState → ℕ) → ℕ → SessionState → SeatState → Action → EngineError → List ℕ → SeatState → Type 0
+IsUndone shards at n x s act error out t = IsRefusal (IsStrange shards at n x s act t) error × IsAtTable act × (out ≡ []) × IsLeft n s act t
 
 -- an action is done, but exactly the first `sent` of its bytes are written, and not all
 abbrev pub IsCutOff : ℕ → ℕ → SessionState → SeatState → Action → ℕ → List ℕ → SeatState → Type 0
@@ -81,7 +95,8 @@ IsTeach act = ⊥
 
 -- An action fails, and leaves the seat: a write failed after some of its bytes, or memory ran out after some bytes of a
 -- lesson, and the seat is as the action leaves it; or a table refused it or memory ran out, and nothing was written.
-abbrev pub Fails : ℕ → ℕ → SessionState → SeatState → Action → EngineError → List ℕ → SeatState → Type 0
-Fails n now x s act (errors.Write sent) out t = IsCutOff n now x s act sent out t
-Fails n now x s act errors.Memory out t = IsUndone n s act errors.Memory out t ⊎ (IsTeach act × (sent : ℕ) × IsCutOff n now x s act sent out t)
-Fails n now x s act error out t = IsUndone n s act error out t
+abbrev pub Fails : ShardsState → (CellState → ℕ) → ℕ → ℕ → SessionState → SeatState → Action → EngineError → List ℕ → SeatState → Type 0
+Fails shards at n now x s act (errors.Write sent) out t = IsCutOff n now x s act sent out t
+Fails shards at n now x s act errors.Memory out t =
+    IsUndone shards at n x s act errors.Memory out t ⊎ (IsTeach act × (sent : ℕ) × IsCutOff n now x s act sent out t)
+Fails shards at n now x s act error out t = IsUndone shards at n x s act error out t

@@ -1,14 +1,11 @@
--- A session that stays at work. Its turns differ from those of any other in three ways: a call on a table comes at the turn's
--- moment, or at the table's latest one if that is later; a resync copies up to its session's bound; and the session requests no
--- resync by itself.
-use Rattle.std.specs.Prelude.{◌≡◌, ◌≢◌, ◌⊎◌, ℕ, nat_eq, Bool, true, false, List, [], ◌∷◌, ◌++◌, Option, Some, None, if◌then◌else◌}
-use Rattle.std.specs.Cmp.Lexicographic.{pointwise}
-use Rattle.table_types.specs.declared.copies.CopyKind.{CopyKind}
-use Rattle.table_types.specs.declared.copies.CopyKind.TheVariants as copies
+-- A session that stays at work. Its turns differ from those of any other in one way: a call on a table comes at the turn's moment, or
+-- at the table's latest one if that is later.
+use Rattle.std.specs.Prelude.{◌≡◌, ◌≢◌, ◌⊎◌, ℕ, Bool, true, false, List, [], ◌∷◌, ◌++◌, Option, Some, None}
 use Rattle.table_types.specs.declared.version.Version.{Version}
 use Rattle.peers_msg.specs.declared.control.Control.TheVariants as controls
 use Rattle.peers_msg.specs.declared.control.ErrorKind.TheVariants as kinds
 use Rattle.table_shards.specs.Receipts.{SeatState}
+use Rattle.table_shards.specs.Rounds.{ShardsState}
 use Rattle.session_core.specs.declared.action.Action.{Action}
 use Rattle.session_core.specs.declared.action.Action.TheVariants as actions
 use Rattle.session_core.specs.declared.event.Event.{Event}
@@ -21,7 +18,7 @@ use Rattle.session_core.specs.Standing.{StandingState, Stands, Ticks, sent_at}
 use Rattle.peers_engine.specs.declared.errors.EngineError.{EngineError}
 use Rattle.peers_engine.specs.declared.errors.EngineError.TheVariants as errors
 use Rattle.peers_engine.specs.Acting.{IsLost, IsRefused, asked}
-use Rattle.peers_engine.specs.Calls.{IsCopiedLate, IsLearnedLate, IsReopened, opened_with}
+use Rattle.peers_engine.specs.Calls.{IsCopiedLate, IsLearnedLate, IsReopened, IsUnopened, late, opened_with}
 use Rattle.peers_engine.specs.Doing.{Done, Fails, IsLeft, IsRefusal}
 use Rattle.peers_engine.specs.Reading.{IsUnread}
 use Rattle.peers_engine.specs.Turns.{first_event}
@@ -43,31 +40,12 @@ stays w s seat = standing_worker s seat w.number w.now
 
 -- ---- what is performed
 
--- the resync of a session that stays is a standing one, which copies up to the session's bound in the table
-abbrev pub standing_kind : CopyKind → CopyKind
-standing_kind copies.Push = copies.Push
-standing_kind copies.Resync = copies.Standing
-standing_kind copies.Standing = copies.Standing
-
-abbrev pub is_request : List ℕ → Bool
-is_request bytes = pointwise nat_eq bytes (control_text controls.ResyncRequest)
-
--- a heartbeat takes the place of a resync request
-abbrev pub without_request : List ℕ → List ℕ
-without_request bytes = if is_request bytes then control_text controls.Heartbeat else bytes
-
--- what a session that stays does in the place of an action
-abbrev pub as_standing : Action → Action
-as_standing (actions.Send bytes) = actions.Send (without_request bytes)
-as_standing (actions.Copy table kind) = actions.Copy table (standing_kind kind)
-as_standing act = act
-
 -- an action is performed, as a session that stays does it
 abbrev pub IsPerformed : StandingWorker → Action → List ℕ → Option Event → SeatState → Type 0
 IsPerformed w (actions.Learn u) out answer seat = (out ≡ []) × (answer ≡ None) × IsLearnedLate w.number w.now w.seat u seat
 IsPerformed w (actions.Copy table kind) out answer seat =
-    (out ≡ []) × (event : Event) × (answer ≡ Some event) × IsCopiedLate w.number w.now w.seat table (standing_kind kind) seat event
-IsPerformed w act out answer seat = Done w.number w.now w.session.session w.seat (as_standing act) out answer seat
+    (out ≡ []) × (event : Event) × (answer ≡ Some event) × IsCopiedLate w.number w.now w.seat table kind seat event
+IsPerformed w act out answer seat = Done w.number w.now w.session.session w.seat act out answer seat
 
 -- The session receives an answer, if there is one, at the moment `now`: the events that it receives, each with what it then
 -- asks for. A session that is over receives nothing.
@@ -97,9 +75,9 @@ Performs w (act ∷ acts) answers out e =
 
 -- ---- what is performed up to an error
 
--- an action fails, as a session that stays performs it
-abbrev pub IsFailed : StandingWorker → Action → EngineError → List ℕ → SeatState → Type 0
-IsFailed w act error out seat = Fails w.number w.now w.session.session w.seat (as_standing act) error out seat
+-- an action fails
+abbrev pub IsFailed : ShardsState → StandingWorker → Action → EngineError → List ℕ → SeatState → Type 0
+IsFailed shards w act error out seat = Fails shards (late w.now) w.number w.now w.session.session w.seat act error out seat
 
 -- the session refuses the event; or receives it, and memory runs out for what it asks for
 abbrev pub DoesNotStay : StandingState → ℕ → Event → EngineError → StandingState → Type 0
@@ -108,23 +86,23 @@ DoesNotStay s now event error e =
     ⊎ ((acts : List Action) × Stands s now event acts e × (error ≡ errors.Memory))
 
 -- Why the first of the remaining actions was the last: it failed; or it was performed, and the session refused its answer.
-abbrev pub IsStandingCut : StandingWorker → List Action → EngineError → List ℕ → SeatState → Type 0
-IsStandingCut w [] error out seat = ⊥
-IsStandingCut w (act ∷ rest) error out seat =
-    IsFailed w act error out seat
+abbrev pub IsStandingCut : ShardsState → StandingWorker → List Action → EngineError → List ℕ → SeatState → Type 0
+IsStandingCut shards w [] error out seat = ⊥
+IsStandingCut shards w (act ∷ rest) error out seat =
+    IsFailed shards w act error out seat
     ⊎ ((answer : Event) × IsPerformed w act out (Some answer) seat
     × (state_of w.session.session.phase ≢ states.Ended) × IsRefused w.session.session answer error)
 
 -- The actions up to one were performed, and then an error came: the answers received, what was written, the session, except
 -- that it is then over, and the seat as it is then.
-abbrev pub PerformsUntil : StandingWorker → List Action → EngineError → List (Event × List Action) → List ℕ → SessionState → SeatState → Type 0
-PerformsUntil w acts error answers out e seat =
+abbrev pub PerformsUntil : ShardsState → StandingWorker → List Action → EngineError → List (Event × List Action) → List ℕ → SessionState → SeatState → Type 0
+PerformsUntil shards w acts error answers out e seat =
     (before rest : List Action)
     × (first last : List ℕ)
     × (mid : StandingWorker)
     × (acts ≡ before ++ rest)
     × Performs w before answers first mid
-    × (IsStandingCut mid rest error last seat ⊎ (IsLost answers error last × (seat ≡ mid.seat)))
+    × (IsStandingCut shards mid rest error last seat ⊎ (IsLost answers error last × (seat ≡ mid.seat)))
     × (out ≡ first ++ last)
     × (ended e ≡ ended mid.session.session)
 
@@ -184,29 +162,29 @@ LeavesPart w event error out e seat =
     × (seat ≡ end.seat)
 
 -- the session refuses the event; or receives it, and what it asks for is performed up to an error, or but for an error message
-abbrev pub RespondsUntil : StandingWorker → Event → EngineError → List ℕ → SessionState → SeatState → Type 0
-RespondsUntil w event error out e seat =
+abbrev pub RespondsUntil : ShardsState → StandingWorker → Event → EngineError → List ℕ → SessionState → SeatState → Type 0
+RespondsUntil shards w event error out e seat =
     IsRefusedAt w event error out e seat
     ⊎ (((acts : List Action)
     × (answers : List (Event × List Action))
     × (mid : StandingState)
     × Stands w.session w.now event acts mid
-    × PerformsUntil (stays w mid w.seat) (acts ++ asked answers) error answers out e seat)
+    × PerformsUntil shards (stays w mid w.seat) (acts ++ asked answers) error answers out e seat)
     ⊎ LeavesPart w event error out e seat)
 
 -- the event of a read, if there was one; otherwise the read failed
-abbrev pub RespondsToUntil : StandingWorker → Option Event → EngineError → List ℕ → SessionState → SeatState → Type 0
-RespondsToUntil w None error out e seat = IsUnread error × (out ≡ []) × (ended e ≡ ended w.session.session) × (seat ≡ w.seat)
-RespondsToUntil w (Some event) error out e seat = RespondsUntil w event error out e seat
+abbrev pub RespondsToUntil : ShardsState → StandingWorker → Option Event → EngineError → List ℕ → SessionState → SeatState → Type 0
+RespondsToUntil shards w None error out e seat = IsUnread error × (out ≡ []) × (ended e ≡ ended w.session.session) × (seat ≡ w.seat)
+RespondsToUntil shards w (Some event) error out e seat = RespondsUntil shards w event error out e seat
 
 -- A turn stops at its first event, and leaves the reader alone; or after it, in reading or at the event of that read.
-abbrev pub StopsStandingTurn : Type 0 → StandingWorker → Option Event → EngineError → List ℕ → SessionState → SeatState → Type 0
-StopsStandingTurn untouched w received error out e seat =
-    (untouched × (received ≡ None) × RespondsUntil w (first_event (state_of w.session.session.phase)) error out e seat)
+abbrev pub StopsStandingTurn : ShardsState → Type 0 → StandingWorker → Option Event → EngineError → List ℕ → SessionState → SeatState → Type 0
+StopsStandingTurn shards untouched w received error out e seat =
+    (untouched × (received ≡ None) × RespondsUntil shards w (first_event (state_of w.session.session.phase)) error out e seat)
     ⊎ ((mid : StandingWorker)
     × (first rest : List ℕ)
     × Responds w (first_event (state_of w.session.session.phase)) first mid
-    × RespondsToUntil mid received error rest e seat
+    × RespondsToUntil shards mid received error rest e seat
     × (out ≡ first ++ rest))
 
 -- ---- a tick
@@ -230,26 +208,27 @@ TakesTick w out e =
     × Performs (stays w mid seat) acts answers out e
     × (asked answers ≡ [])
 
--- one of these tables isn't reopened, and those before it are
-abbrev pub FailsToReopen : ℕ → Version → SeatState → List ℕ → SeatState → Type 0
-FailsToReopen n version s [] t = ⊥
-FailsToReopen n version s (table ∷ tables) t =
-    IsLeft n s (actions.Reopen table) t ⊎ ((mid : SeatState) × IsReopened n version s table mid × FailsToReopen n version mid tables t)
+-- one of these tables isn't reopened, which gives the error, and those before it are
+abbrev pub FailsToReopen : ShardsState → ℕ → Version → SeatState → List ℕ → EngineError → SeatState → Type 0
+FailsToReopen shards n version s [] error t = ⊥
+FailsToReopen shards n version s (table ∷ tables) error t =
+    (IsRefusal (IsUnopened shards n version s table t) error × IsLeft n s (actions.Reopen table) t)
+    ⊎ ((mid : SeatState) × IsReopened n version s table mid × FailsToReopen shards n version mid tables error t)
 
 -- The session refuses the tick as it refuses a turn; or a table that it leaves isn't reopened, and nothing is written; or what
 -- it asks for is performed up to an error.
-abbrev pub StopsTick : StandingWorker → EngineError → List ℕ → SessionState → SeatState → Type 0
-StopsTick w error out e seat =
+abbrev pub StopsTick : ShardsState → StandingWorker → EngineError → List ℕ → SessionState → SeatState → Type 0
+StopsTick shards w error out e seat =
     IsRefusedAt w events.Turn error out e seat
     ⊎ ((left : List ℕ)
     × (acts : List Action)
     × (mid : StandingState)
     × Ticks w.session w.now left acts mid
-    × ((IsRefusal error × FailsToReopen w.number (opened_with mid.session.version) w.seat left seat × (out ≡ []) × (ended e ≡ ended mid.session))
+    × ((FailsToReopen shards w.number (opened_with mid.session.version) w.seat left error seat × (out ≡ []) × (ended e ≡ ended mid.session))
     ⊎ ((answers : List (Event × List Action))
     × (next : SeatState)
     × AreReopened w.number (opened_with mid.session.version) w.seat left next
-    × PerformsUntil (stays w mid next) acts error answers out e seat)))
+    × PerformsUntil shards (stays w mid next) acts error answers out e seat)))
 
 -- ---- a request
 

@@ -11,6 +11,7 @@ use Rattle.session_core.specs.declared.state.State.TheVariants as states
 use Rattle.session_core.specs.Sessions.{SessionState, Goes, ended, state_of}
 use Rattle.session_core.specs.Runs.{Runs}
 use Rattle.table_shards.specs.Receipts.{SeatState}
+use Rattle.table_shards.specs.Rounds.{ShardsState}
 use Rattle.peers_engine.specs.declared.errors.EngineError.{EngineError}
 use Rattle.peers_engine.specs.Reading.{IsUnread}
 use Rattle.peers_engine.specs.Acting.{Acts, IsRefused, Stops, Worker, asked, stands}
@@ -43,14 +44,14 @@ Reacts w event out e =
     × Acts (stands w mid w.seat) (acts ++ asked answers) answers out e
 
 -- the session refuses the event; or receives it, and what it asks for is performed up to an error
-abbrev pub Halts : Worker → Event → EngineError → List ℕ → SessionState → SeatState → Type 0
-Halts w event error out e seat =
+abbrev pub Halts : ShardsState → Worker → Event → EngineError → List ℕ → SessionState → SeatState → Type 0
+Halts shards w event error out e seat =
     (IsRefused w.session event error × (out ≡ []) × (ended e ≡ ended w.session) × (seat ≡ w.seat))
     ⊎ ((acts : List Action)
     × (answers : List (Event × List Action))
     × (mid : SessionState)
     × Goes w.session event acts mid
-    × Stops (stands w mid w.seat) (acts ++ asked answers) error answers out e seat)
+    × Stops shards (stands w mid w.seat) (acts ++ asked answers) error answers out e seat)
 
 -- ---- a whole turn
 
@@ -75,9 +76,9 @@ abbrev pub Receives : Worker → Option Event → List ℕ → Worker → Type 0
 Receives w None out e = (out ≡ []) × (e ≡ w)
 Receives w (Some event) out e = Reacts w event out e
 
-abbrev pub HaltsAt : Worker → Option Event → EngineError → List ℕ → SessionState → SeatState → Type 0
-HaltsAt w None error out e seat = IsUnread error × (out ≡ []) × (ended e ≡ ended w.session) × (seat ≡ w.seat)
-HaltsAt w (Some event) error out e seat = Halts w event error out e seat
+abbrev pub HaltsAt : ShardsState → Worker → Option Event → EngineError → List ℕ → SessionState → SeatState → Type 0
+HaltsAt shards w None error out e seat = IsUnread error × (out ≡ []) × (ended e ≡ ended w.session) × (seat ≡ w.seat)
+HaltsAt shards w (Some event) error out e seat = Halts shards w event error out e seat
 
 -- A turn gives the session its first event and leaves the reader alone; or that event leaves nothing to do, and the
 -- turn then reads and gives the session the event of that read, if any.
@@ -87,7 +88,7 @@ TakesTurn untouched w received out e =
     ⊎ ((mid : Worker) × Idles w (first_event (state_of w.session.phase)) mid × Receives mid received out e)
 
 -- the same, up to an error
-abbrev pub StopsTurn : Type 0 → Worker → Option Event → EngineError → List ℕ → SessionState → SeatState → Type 0
-StopsTurn untouched w received error out e seat =
-    (untouched × (received ≡ None) × Halts w (first_event (state_of w.session.phase)) error out e seat)
-    ⊎ ((mid : Worker) × Idles w (first_event (state_of w.session.phase)) mid × HaltsAt mid received error out e seat)
+abbrev pub StopsTurn : ShardsState → Type 0 → Worker → Option Event → EngineError → List ℕ → SessionState → SeatState → Type 0
+StopsTurn shards untouched w received error out e seat =
+    (untouched × (received ≡ None) × Halts shards w (first_event (state_of w.session.phase)) error out e seat)
+    ⊎ ((mid : Worker) × Idles w (first_event (state_of w.session.phase)) mid × HaltsAt shards mid received error out e seat)

@@ -11,7 +11,8 @@ ghost use Rattle.session_core.specs.declared.event.Event.TheVariants as events;
 ghost use Rattle.peers_engine.specs.declared.errors.EngineError.TheVariants as errors;
 ghost use Rattle.session_core.specs.Sessions.{SessionState};
 ghost use Rattle.peers_engine.specs.Acting.{Acts, Stops, asked, worker};
-ghost use Rattle.peers_engine.specs.Calls.{IsCopied, IsSettled};
+ghost use Rattle.table_cell.specs.Histories.{CellState};
+ghost use Rattle.peers_engine.specs.Calls.{IsCopied, IsSettled, IsUncopied};
 ghost use Rattle.teach_writer.specs.Lessons.{IsShortestLesson};
 ghost use Rattle.teach_writer.specs.Pieces.{bytes_left};
 ghost use Rattle.peers_engine.specs.Doing.{Fails, Falls, IsRefusal, error_text};
@@ -63,7 +64,7 @@ pub fn copy_batch<H: Wait, G: Gate>(
 ) -> Result<Event, EngineError>
     ensures seat { seat.new.number ≡ seat.old.number }
     ensures answer { IfOk result (IsCopied context.now.number context.now.moment seat.old table kind seat.new) }
-    ensures refused { IfErr result IsRefusal }
+    ensures refused { IfErr result (IsRefusal (IsUncopied context.now.shards.now (λ c. context.now.moment) context.now.number seat.old table kind seat.new)) }
     ensures stays { OnErr result (seat.new ≡ seat.old) }
 {
     let copied = copy(context, seat, table, kind)?;
@@ -81,7 +82,7 @@ pub fn plan<H, G>(
     batch: &Batch,
 ) -> Result<Pieces, EngineError>
     ensures lesson { IfOk result (λ pieces. IsShortestLesson known.now batch.now (bytes_left pieces) pieces.known) }
-    ensures refused { IfErr result IsRefusal }
+    ensures refused { IfErr result (IsRefusal (IsBatchFor known.now.roster batch.now → ⊥)) }
     ensures strange { IfErr result (λ e. e ≡ errors.Strange → IsBatchFor known.now.roster batch.now → ⊥) }
 {
     if !batch.is_for(known.roster()) {
@@ -105,8 +106,8 @@ pub(crate) fn teach_batch<H: Wait, G: Gate, W: Write + Faults>(
     ensures seat { seat.new.number ≡ seat.old.number }
     ensures taught { IfOk result (λ event. (out : List ℕ) × (after : KnownState) × IsShortestLesson known.now batch.now out after
         × (event ≡ events.Written after) × IsSettled context.now.number seat.old batch.now seat.new × Appends (W.contents output.old) (W.contents output.new) out) }
-    ensures failed { (session : SessionState) → session.known ≡ known.now
-        → IfErr result (λ e. (out : List ℕ) × Fails context.now.number context.now.moment session seat.old (actions.Teach batch.now) e out seat.new
+    ensures failed { (session : SessionState) (at : CellState → ℕ) → session.known ≡ known.now
+        → IfErr result (λ e. (out : List ℕ) × Fails context.now.shards.now at context.now.number context.now.moment session seat.old (actions.Teach batch.now) e out seat.new
         × Appends (W.contents output.old) (W.contents output.new) out) }
     ensures unread { IfErr result (λ e. e ≢ errors.Read) }
 {
@@ -144,7 +145,7 @@ pub(crate) fn do_action<H: Wait, G: Gate, W: Write + Faults>(
         × (given.new.items ≡ given.old.items ++ asked answers)
         × Appends (W.contents output.old) (W.contents output.new) out) }
     ensures failed { IfErr result (λ e. (answers : List (Event × List Action)) × (out : List ℕ)
-        × Stops (worker session.old seat.old context.now.number context.now.moment) (action ∷ []) e answers out session.new seat.new
+        × Stops context.now.shards.now (worker session.old seat.old context.now.number context.now.moment) (action ∷ []) e answers out session.new seat.new
         × Appends (W.contents output.old) (W.contents output.new) out) }
     ensures unread { IfErr result (λ e. e ≢ errors.Read) }
 {

@@ -122,7 +122,7 @@ impl StandingWorker {
         ensures closed { IfOk result (λ stood. (stood ≡ stands.Closed) ↔ (state_of self.new.session.session.phase ≡ states.Ended)) }
         ensures ended { OnErr result (state_of self.new.session.session.phase ≡ states.Ended) }
         ensures stopped { IfErr result (λ e. (received : Option Event) × (read out : List ℕ) × IsRead (IsAtEnd (R.remaining input.new)) received read
-            × StopsStandingTurn (input.new ≡ input.old) (standing_worker self.old.session self.old.seat self.old.number now) received e out self.new.session.session self.new.seat
+            × StopsStandingTurn shards.now (input.new ≡ input.old) (standing_worker self.old.session self.old.seat self.old.number now) received e out self.new.session.session self.new.seat
             × Consumes (R.remaining input.old) (R.remaining input.new) read
             × Appends (W.contents output.old) (W.contents output.new) out) }
         ensures read { result ≡ Err errors.Read → Rose (R.failed input.old) (R.failed input.new) }
@@ -172,7 +172,7 @@ impl StandingWorker {
             × Appends (W.contents output.old) (W.contents output.new) out) }
         ensures closed { IfOk result (λ stood. (stood ≡ stands.Closed) ↔ (state_of self.new.session.session.phase ≡ states.Ended)) }
         ensures ended { OnErr result (state_of self.new.session.session.phase ≡ states.Ended) }
-        ensures stopped { IfErr result (λ e. (out : List ℕ) × StopsTick (standing_worker self.old.session self.old.seat self.old.number now) e out self.new.session.session self.new.seat
+        ensures stopped { IfErr result (λ e. (out : List ℕ) × StopsTick shards.now (standing_worker self.old.session self.old.seat self.old.number now) e out self.new.session.session self.new.seat
             × Appends (W.contents output.old) (W.contents output.new) out) }
         ensures unread { IfErr result (λ e. e ≢ errors.Read) }
         ensures refused { (e : SessionError) → e ≢ refusals.Memory → Refuses self.old.session.session.phase events.Turn e

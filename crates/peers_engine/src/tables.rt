@@ -1,18 +1,18 @@
 //! The calls on tables that a session asks for. Each takes the table's lock for that call only. The seat keeps an
 //! answer that makes no event and lets the turn go on.
 
-ghost use Rattle.std.specs.Prelude.{◌≡◌, ◌⊎◌, ℕ, max, IfErr, IfOk, OnErr, OnOk, Ok};
-ghost use Rattle.peers_engine.specs.Calls.{CallsClose, CallsOpen, IsCopied, IsCopiedLate, IsCopiedOn, IsLearned, IsLearnedLate, IsLearnedOn, IsReopened, IsSettled, IsSoundTable, IsTaken, opened_with};
+ghost use Rattle.std.specs.Prelude.{◌≡◌, ◌⊎◌, ℕ, IfErr, IfOk, OnErr, OnOk, Ok};
+ghost use Rattle.peers_engine.specs.Calls.{CallsClose, CallsOpen, IsBarred, IsCopied, IsCopiedLate, IsCopiedOn, IsLearned, IsLearnedLate, IsLearnedOn, IsMissing, IsReopened, IsSettled, IsSoundTable, IsTaken, IsUncopied, IsUnlearned, IsUnopened, IsUnsettled, IsUntaken, RefusesClose, RefusesCopyOn, RefusesLearnOn, RefusesOpen, ack_end, close_end, copy_end, late, learn_end, open_end, opened_with, settle_end};
 ghost use Rattle.peers_engine.specs.Doing.{IsRefusal};
 
 use crate::context::Context;
 use crate::errors::EngineError;
 use session_core::Event;
 use std::sync::{MutexGuard, Wait};
-use table_cell::{AckError, CloseError, CopyError, LearnError, OpenError};
+use table_cell::{AckError, CloseError, CopyError, LearnError, OpenError, StrangeBatch};
 use table_shards::held::{lent, noted};
 use table_shards::{Locked, Seat, ShardError};
-use table_types::{Batch, CopyKind, Moment, Update, Version};
+use table_types::{Batch, CopyKind, Moment, Settled, Update, Version};
 
 /// The most updates that a turn copies at once. A batch may have more, but nothing is read until its lesson is written.
 const MOST_COPIED: usize = 512;
@@ -23,7 +23,7 @@ fn lock<'a, H: Wait, G>(
     context: &Context<'a, H, G>,
     table: u64,
 ) -> Result<MutexGuard<'a, Locked>, EngineError>
-    ensures refused { IfErr result IsRefusal }
+    ensures refused { IfErr result (IsRefusal (IsMissing context.now.shards.now table)) }
 {
     match context.shards.cell(table) {
         Some(cell) => Ok(cell.lock(context.rt)),
@@ -38,21 +38,76 @@ fn note_sound(locked: &Locked)
     let _events = locked.cell().events();
 }
 
-/// Returns the engine's error for a refusal that can't be passed on to the session. `memory` is the cell's own error
-/// for running out of memory.
-fn refused<E: Copy + PartialEq>(error: ShardError<E>, memory: E) -> EngineError
-    ensures { IsRefusal result }
+/// Returns what a turn does after the answer to a learn: it goes on if the row is learned, or if the table is full and skips it.
+fn learn_end(learned: Result<(), ShardError<LearnError>>) -> Result<(), EngineError>
+    ensures { result ≡ learn_end learned }
 {
-    if error == ShardError::Memory || error == ShardError::Cell(memory) {
-        EngineError::Memory
-    } else {
-        EngineError::Strange
+    match learned {
+        Ok(()) | Err(ShardError::Cell(LearnError::TableFull)) => Ok(()),
+        Err(ShardError::Memory | ShardError::Cell(LearnError::Memory)) => Err(EngineError::Memory),
+        Err(_) => Err(EngineError::Strange),
+    }
+}
+
+/// Returns what a turn does after the answer to a copy: it passes on the batch, or that there is nothing to copy.
+fn copy_end(table: u64, copied: Result<Batch, ShardError<CopyError>>) -> Result<Event, EngineError>
+    ensures { result ≡ copy_end table copied }
+{
+    match copied {
+        Ok(batch) => Ok(Event::Copied(table, batch)),
+        Err(ShardError::Cell(CopyError::Nothing)) => Ok(Event::Nothing(table)),
+        Err(ShardError::Memory | ShardError::Cell(CopyError::Memory)) => Err(EngineError::Memory),
+        Err(_) => Err(EngineError::Strange),
+    }
+}
+
+/// Returns what a turn does after the answer to an acknowledgement: it passes on what was settled, or that the number wasn't taught.
+fn ack_end(table: u64, settled: Result<Settled, ShardError<AckError>>) -> Result<Event, EngineError>
+    ensures { result ≡ ack_end table settled }
+{
+    match settled {
+        Ok(settled) => Ok(Event::Settled(table, settled)),
+        Err(ShardError::Cell(AckError::AckAhead)) => Ok(Event::Refused(table)),
+        Err(ShardError::Memory | ShardError::Cell(AckError::Memory)) => Err(EngineError::Memory),
+        Err(_) => Err(EngineError::Strange),
+    }
+}
+
+/// Returns what a turn does after a test that a batch is the latest one.
+fn settle_end(settled: Result<(), ShardError<StrangeBatch>>) -> Result<(), EngineError>
+    ensures { result ≡ settle_end settled }
+{
+    match settled {
+        Ok(()) => Ok(()),
+        Err(_) => Err(EngineError::Strange),
+    }
+}
+
+/// Returns what a turn does after the session is closed in a table, or isn't.
+fn close_end(closed: Result<(), ShardError<CloseError>>) -> Result<(), EngineError>
+    ensures { result ≡ close_end closed }
+{
+    match closed {
+        Ok(()) => Ok(()),
+        Err(ShardError::Memory | ShardError::Cell(CloseError::Memory)) => Err(EngineError::Memory),
+        Err(_) => Err(EngineError::Strange),
+    }
+}
+
+/// Returns what a turn does after the session is opened in a table, or isn't.
+fn open_end(opened: Result<(), ShardError<OpenError>>) -> Result<(), EngineError>
+    ensures { result ≡ open_end opened }
+{
+    match opened {
+        Ok(()) => Ok(()),
+        Err(ShardError::Memory | ShardError::Cell(OpenError::Memory)) => Err(EngineError::Memory),
+        Err(_) => Err(EngineError::Strange),
     }
 }
 
 /// Returns the turn's moment, or the table's latest one if that is later, so that the table doesn't refuse a call for its moment.
 fn late<H, G>(context: &Context<H, G>, locked: &Locked) -> Moment
-    ensures { result ≡ max context.now.moment locked.now.state.latest }
+    ensures { result ≡ late context.now.moment locked.now }
 {
     let latest = locked.cell().latest();
     if latest.milliseconds() < context.moment.milliseconds() {
@@ -72,16 +127,12 @@ fn learn_at(
 ) -> Result<(), EngineError>
     ensures seat { seat.new.number ≡ seat.old.number }
     ensures learned { OnOk result (IsLearnedOn locked.old number now seat.old update seat.new) }
-    ensures refused { IfErr result IsRefusal }
+    ensures refused { IfErr result (IsRefusal (RefusesLearnOn locked.old number now seat.old update seat.new)) }
     ensures stays { OnErr result (seat.new ≡ seat.old) }
 {
     note_sound(locked);
     let table = update.table;
-    match noted::learn(locked, seat, table, number, update, now) {
-        Ok(()) => Ok(()),
-        Err(ShardError::Cell(LearnError::TableFull)) => Ok(()),
-        Err(error) => Err(refused(error, LearnError::Memory)),
-    }
+    learn_end(noted::learn(locked, seat, table, number, update, now))
 }
 
 /// Learns an update. A full table skips it.
@@ -92,11 +143,12 @@ pub(crate) fn learn<H: Wait, G>(
 ) -> Result<(), EngineError>
     ensures seat { seat.new.number ≡ seat.old.number }
     ensures learned { OnOk result (IsLearned context.now.number context.now.moment seat.old update seat.new) }
-    ensures refused { IfErr result IsRefusal }
+    ensures refused { IfErr result (IsRefusal (IsUnlearned context.now.shards.now (λ c. context.now.moment) context.now.number seat.old update seat.new)) }
     ensures stays { OnErr result (seat.new ≡ seat.old) }
 {
-    let mut locked = lock(context, update.table)?;
-    learn_at(&mut locked, context.number, seat, update, context.moment)
+    let mut guard = lock(context, update.table)?;
+    let locked: &mut Locked = &mut guard;
+    learn_at(locked, context.number, seat, update, context.moment)
 }
 
 /// Learns an update, at the turn's moment or the table's latest. A full table skips it.
@@ -107,7 +159,7 @@ pub(crate) fn learn_late<H: Wait, G>(
 ) -> Result<(), EngineError>
     ensures seat { seat.new.number ≡ seat.old.number }
     ensures learned { OnOk result (IsLearnedLate context.now.number context.now.moment seat.old update seat.new) }
-    ensures refused { IfErr result IsRefusal }
+    ensures refused { IfErr result (IsRefusal (IsUnlearned context.now.shards.now (late context.now.moment) context.now.number seat.old update seat.new)) }
     ensures stays { OnErr result (seat.new ≡ seat.old) }
 {
     let mut guard = lock(context, update.table)?;
@@ -125,17 +177,16 @@ pub fn acknowledge<H: Wait, G>(
 ) -> Result<Event, EngineError>
     ensures seat { seat.new.number ≡ seat.old.number }
     ensures answer { IfOk result (IsTaken context.now.number seat.old table number seat.new) }
-    ensures refused { IfErr result IsRefusal }
+    ensures refused { IfErr result (IsRefusal (IsUntaken context.now.shards.now context.now.number seat.old table number seat.new)) }
     ensures stays { OnErr result (seat.new ≡ seat.old) }
 {
     let mut guard = lock(context, table)?;
     let locked: &mut Locked = &mut guard;
     note_sound(locked);
-    match noted::ack(locked, seat, table, context.number, number) {
-        Ok(settled) => Ok(Event::Settled(table, settled)),
-        Err(ShardError::Cell(AckError::AckAhead)) => Ok(Event::Refused(table)),
-        Err(error) => Err(refused(error, AckError::Memory)),
-    }
+    ack_end(
+        table,
+        noted::ack(locked, seat, table, context.number, number),
+    )
 }
 
 /// Copies a batch at `now`.
@@ -149,15 +200,14 @@ fn copy_at(
 ) -> Result<Event, EngineError>
     ensures seat { seat.new.number ≡ seat.old.number }
     ensures answer { IfOk result (IsCopiedOn locked.old number now seat.old table kind seat.new) }
-    ensures refused { IfErr result IsRefusal }
+    ensures refused { IfErr result (IsRefusal (RefusesCopyOn locked.old number now seat.old table kind seat.new)) }
     ensures stays { OnErr result (seat.new ≡ seat.old) }
 {
     note_sound(locked);
-    match noted::copy(locked, seat, table, number, kind, MOST_COPIED, now) {
-        Ok(batch) => Ok(Event::Copied(table, batch)),
-        Err(ShardError::Cell(CopyError::Nothing)) => Ok(Event::Nothing(table)),
-        Err(error) => Err(refused(error, CopyError::Memory)),
-    }
+    copy_end(
+        table,
+        noted::copy(locked, seat, table, number, kind, MOST_COPIED, now),
+    )
 }
 
 /// Copies a batch.
@@ -169,18 +219,12 @@ pub(crate) fn copy<H: Wait, G>(
 ) -> Result<Event, EngineError>
     ensures seat { seat.new.number ≡ seat.old.number }
     ensures answer { IfOk result (IsCopied context.now.number context.now.moment seat.old table kind seat.new) }
-    ensures refused { IfErr result IsRefusal }
+    ensures refused { IfErr result (IsRefusal (IsUncopied context.now.shards.now (λ c. context.now.moment) context.now.number seat.old table kind seat.new)) }
     ensures stays { OnErr result (seat.new ≡ seat.old) }
 {
-    let mut locked = lock(context, table)?;
-    copy_at(
-        &mut locked,
-        context.number,
-        seat,
-        table,
-        kind,
-        context.moment,
-    )
+    let mut guard = lock(context, table)?;
+    let locked: &mut Locked = &mut guard;
+    copy_at(locked, context.number, seat, table, kind, context.moment)
 }
 
 /// Copies a batch, at the turn's moment or the table's latest.
@@ -192,7 +236,7 @@ pub(crate) fn copy_late<H: Wait, G>(
 ) -> Result<Event, EngineError>
     ensures seat { seat.new.number ≡ seat.old.number }
     ensures answer { IfOk result (IsCopiedLate context.now.number context.now.moment seat.old table kind seat.new) }
-    ensures refused { IfErr result IsRefusal }
+    ensures refused { IfErr result (IsRefusal (IsUncopied context.now.shards.now (late context.now.moment) context.now.number seat.old table kind seat.new)) }
     ensures stays { OnErr result (seat.new ≡ seat.old) }
 {
     let mut guard = lock(context, table)?;
@@ -209,7 +253,7 @@ pub fn settle<H: Wait, G>(
 ) -> Result<(), EngineError>
     ensures seat { seat.new.number ≡ seat.old.number }
     ensures settled { OnOk result (IsSettled context.now.number seat.old batch.now seat.new) }
-    ensures refused { IfErr result IsRefusal }
+    ensures refused { IfErr result (IsRefusal (IsUnsettled context.now.shards.now context.now.number seat.old batch.now seat.new)) }
     ensures stays { OnErr result (seat.new ≡ seat.old) }
 {
     let Some(first) = batch.updates().first() else {
@@ -219,10 +263,7 @@ pub fn settle<H: Wait, G>(
     let mut guard = lock(context, table)?;
     let locked: &mut Locked = &mut guard;
     note_sound(locked);
-    match noted::settle(locked, seat, table, context.number, batch) {
-        Ok(()) => Ok(()),
-        Err(_) => Err(EngineError::Strange),
-    }
+    settle_end(noted::settle(locked, seat, table, context.number, batch))
 }
 
 /// Closes the session in a table.
@@ -233,16 +274,13 @@ fn close<H: Wait, G>(
 ) -> Result<(), EngineError>
     ensures seat { seat.new.number ≡ seat.old.number }
     ensures closed { OnOk result (CallsClose context.now.number seat.old table (Ok tt) seat.new) }
-    ensures refused { IfErr result IsRefusal }
+    ensures refused { IfErr result (IsRefusal (IsBarred context.now.shards.now table seat.old seat.new (RefusesClose context.now.number seat.old table seat.new))) }
     ensures stays { OnErr result (seat.new ≡ seat.old) }
 {
     let mut guard = lock(context, table)?;
     let locked: &mut Locked = &mut guard;
     note_sound(locked);
-    match lent::close_session(locked, seat, table, context.number) {
-        Ok(()) => Ok(()),
-        Err(error) => Err(refused(error, CloseError::Memory)),
-    }
+    close_end(lent::close_session(locked, seat, table, context.number))
 }
 
 /// Returns the version with which a session is opened in its tables: the one that it speaks, or 2.1 until its hello is done.
@@ -261,16 +299,13 @@ fn open<H: Wait, G>(
 ) -> Result<(), EngineError>
     ensures seat { seat.new.number ≡ seat.old.number }
     ensures opened { OnOk result (CallsOpen context.now.number version seat.old table (Ok tt) seat.new) }
-    ensures refused { IfErr result IsRefusal }
+    ensures refused { IfErr result (IsRefusal (IsBarred context.now.shards.now table seat.old seat.new (RefusesOpen context.now.number version seat.old table seat.new))) }
     ensures stays { OnErr result (seat.new ≡ seat.old) }
 {
     let mut guard = lock(context, table)?;
     let locked: &mut Locked = &mut guard;
     note_sound(locked);
-    match lent::open_session(locked, seat, table, context.number, version) {
-        Ok(()) => Ok(()),
-        Err(error) => Err(refused(error, OpenError::Memory)),
-    }
+    open_end(lent::open_session(locked, seat, table, context.number, version))
 }
 
 /// Closes the session in a table and opens it anew, with this version.
@@ -282,7 +317,7 @@ pub(crate) fn reopen<H: Wait, G>(
 ) -> Result<(), EngineError>
     ensures seat { seat.new.number ≡ seat.old.number }
     ensures reopened { OnOk result (IsReopened context.now.number version seat.old table seat.new) }
-    ensures refused { IfErr result IsRefusal }
+    ensures refused { IfErr result (IsRefusal (IsUnopened context.now.shards.now context.now.number version seat.old table seat.new)) }
     ensures left { OnErr result ((seat.new ≡ seat.old) ⊎ CallsClose context.now.number seat.old table (Ok tt) seat.new) }
 {
     close(context, seat, table)?;

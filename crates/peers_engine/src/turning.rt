@@ -53,7 +53,7 @@ fn do_all<H: Wait, G: Gate, W: Write + Faults>(
         × Acts (worker session.old seat.old context.now.number context.now.moment) actions.items answers out (worker session.new seat.new context.now.number context.now.moment) × (given.items ≡ asked answers)
         × Appends (W.contents output.old) (W.contents output.new) out) }
     ensures failed { IfErr result (λ e. (answers : List (Event × List Action)) × (out : List ℕ)
-        × Stops (worker session.old seat.old context.now.number context.now.moment) actions.items e answers out session.new seat.new
+        × Stops context.now.shards.now (worker session.old seat.old context.now.number context.now.moment) actions.items e answers out session.new seat.new
         × Appends (W.contents output.old) (W.contents output.new) out) }
     ensures unread { IfErr result (λ e. e ≢ errors.Read) }
 {
@@ -90,7 +90,7 @@ fn react<H: Wait, G: Gate, W: Write + Faults>(
     ensures seat { seat.new.number ≡ seat.old.number }
     ensures done { OnOk result ((out : List ℕ) × Reacts (worker session.old seat.old context.now.number context.now.moment) event out (worker session.new seat.new context.now.number context.now.moment)
         × Appends (W.contents output.old) (W.contents output.new) out) }
-    ensures failed { IfErr result (λ e. (out : List ℕ) × Halts (worker session.old seat.old context.now.number context.now.moment) event e out session.new seat.new
+    ensures failed { IfErr result (λ e. (out : List ℕ) × Halts context.now.shards.now (worker session.old seat.old context.now.number context.now.moment) event e out session.new seat.new
         × Appends (W.contents output.old) (W.contents output.new) out) }
     ensures unread { IfErr result (λ e. e ≢ errors.Read) }
     ensures idle { result ≡ Ok true → Idles (worker session.old seat.old context.now.number context.now.moment) event (worker session.new seat.new context.now.number context.now.moment) × Appends (W.contents output.old) (W.contents output.new) [] }
@@ -119,7 +119,7 @@ fn receive<H: Wait, G: Gate, R: Read + Faults, W: Write + Faults>(
         × Consumes (R.remaining input.old) (R.remaining input.new) read
         × Appends (W.contents output.old) (W.contents output.new) out) }
     ensures failed { IfErr result (λ e. (received : Option Event) × (read out : List ℕ) × IsRead (IsAtEnd (R.remaining input.new)) received read
-        × HaltsAt (worker session.old seat.old context.now.number context.now.moment) received e out session.new seat.new
+        × HaltsAt context.now.shards.now (worker session.old seat.old context.now.number context.now.moment) received e out session.new seat.new
         × Consumes (R.remaining input.old) (R.remaining input.new) read
         × Appends (W.contents output.old) (W.contents output.new) out) }
     ensures read { result ≡ Err errors.Read → Rose (R.failed input.old) (R.failed input.new) }
@@ -145,7 +145,7 @@ fn take_turn<H: Wait, G: Gate, R: Read + Faults, W: Write + Faults>(
         × Consumes (R.remaining input.old) (R.remaining input.new) read
         × Appends (W.contents output.old) (W.contents output.new) out) }
     ensures failed { IfErr result (λ e. (received : Option Event) × (read out : List ℕ) × IsRead (IsAtEnd (R.remaining input.new)) received read
-        × StopsTurn (input.new ≡ input.old) (worker session.old seat.old context.now.number context.now.moment) received e out session.new seat.new
+        × StopsTurn context.now.shards.now (input.new ≡ input.old) (worker session.old seat.old context.now.number context.now.moment) received e out session.new seat.new
         × Consumes (R.remaining input.old) (R.remaining input.new) read
         × Appends (W.contents output.old) (W.contents output.new) out) }
     ensures read { result ≡ Err errors.Read → Rose (R.failed input.old) (R.failed input.new) }
@@ -201,7 +201,7 @@ pub(crate) fn turn_and_end<H: Wait, G: Gate, R: Read + Faults, W: Write + Faults
         × Consumes (R.remaining input.old) (R.remaining input.new) read
         × Appends (W.contents output.old) (W.contents output.new) out) }
     ensures stopped { IfErr result (λ e. (received : Option Event) × (read out : List ℕ) × IsRead (IsAtEnd (R.remaining input.new)) received read
-        × StopsTurn (input.new ≡ input.old) (worker session.old seat.old context.now.number context.now.moment) received e out session.new seat.new
+        × StopsTurn context.now.shards.now (input.new ≡ input.old) (worker session.old seat.old context.now.number context.now.moment) received e out session.new seat.new
         × Consumes (R.remaining input.old) (R.remaining input.new) read
         × Appends (W.contents output.old) (W.contents output.new) out) }
     ensures read { result ≡ Err errors.Read → Rose (R.failed input.old) (R.failed input.new) }
@@ -257,7 +257,7 @@ pub fn turn<H: Wait, R: Read + Faults, W: Write + Faults, G: Gate>(
         × Consumes (R.remaining input.old) (R.remaining input.new) read
         × Appends (W.contents output.old) (W.contents output.new) out) }
     ensures stopped { IfErr result.1 (λ e. (received : Option Event) × (read out : List ℕ) × IsRead (IsAtEnd (R.remaining input.new)) received read
-        × StopsTurn (input.new ≡ input.old) (worker session.old seat number now) received e out session.new result.0
+        × StopsTurn shards.now (input.new ≡ input.old) (worker session.old seat number now) received e out session.new result.0
         × Consumes (R.remaining input.old) (R.remaining input.new) read
         × Appends (W.contents output.old) (W.contents output.new) out) }
     ensures read { result.1 ≡ Err errors.Read → Rose (R.failed input.old) (R.failed input.new) }

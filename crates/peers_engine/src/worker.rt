@@ -62,7 +62,7 @@ impl Worker {
             × Consumes (R.remaining input.old) (R.remaining input.new) read
             × Appends (W.contents output.old) (W.contents output.new) out) }
         ensures stopped { IfErr result (λ e. (received : Option Event) × (read out : List ℕ) × IsRead (IsAtEnd (R.remaining input.new)) received read
-            × StopsTurn (input.new ≡ input.old) (worker self.old.session self.old.seat self.old.number now) received e out self.new.session self.new.seat
+            × StopsTurn shards.now (input.new ≡ input.old) (worker self.old.session self.old.seat self.old.number now) received e out self.new.session self.new.seat
             × Consumes (R.remaining input.old) (R.remaining input.new) read
             × Appends (W.contents output.old) (W.contents output.new) out) }
         ensures read { result ≡ Err errors.Read → Rose (R.failed input.old) (R.failed input.new) }

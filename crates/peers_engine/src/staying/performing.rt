@@ -9,7 +9,7 @@ ghost use Rattle.session_core.specs.Sessions.{state_of};
 ghost use Rattle.peers_engine.specs.declared.errors.EngineError.TheVariants as errors;
 ghost use Rattle.peers_engine.specs.Acting.{asked};
 ghost use Rattle.peers_engine.specs.Doing.{Falls};
-ghost use Rattle.peers_engine.specs.Staying.{DoesNotStay, IsTold, Performs, PerformsUntil, standing_kind, standing_worker, without_request};
+ghost use Rattle.peers_engine.specs.Staying.{DoesNotStay, IsTold, Performs, PerformsUntil, standing_worker};
 
 use crate::context::Context;
 use crate::doing::{part, send, teach_batch};
@@ -22,7 +22,7 @@ use session_core::{Action, Event, Standing, State};
 use std::io::Write;
 use std::sync::Wait;
 use table_shards::Seat;
-use table_types::{CopyKind, Moment};
+use table_types::Moment;
 
 /// The bytes of a resync request.
 pub(crate) const RESYNC_REQUEST_BYTES: [u8; 2] = [0, 0];
@@ -30,30 +30,16 @@ pub(crate) const RESYNC_REQUEST_BYTES: [u8; 2] = [0, 0];
 /// The bytes of a heartbeat.
 const HEARTBEAT_BYTES: [u8; 2] = [0, 4];
 
-/// Returns the kind of a copy of a session that stays.
-fn standing_kind(kind: CopyKind) -> CopyKind
-    ensures { result ≡ standing_kind kind }
-{
-    match kind {
-        CopyKind::Push => CopyKind::Push,
-        CopyKind::Resync | CopyKind::Standing => CopyKind::Standing,
-    }
-}
-
-/// Writes bytes that a session that stays sends: a heartbeat in the place of a resync request.
+/// Writes bytes that the session sends, and counts a heartbeat.
 fn send_bytes<W: Write + Faults>(
     output: &mut W,
     tally: &mut Tally,
     bytes: &[u8],
 ) -> Result<(), EngineError>
-    ensures sent { OnOk result (Appends (W.contents output.old) (W.contents output.new) (without_request bytes.now)) }
-    ensures failed { IfErr result (λ e. Falls (without_request bytes.now) e (W.contents output.old) (W.contents output.new)) }
+    ensures sent { OnOk result (Appends (W.contents output.old) (W.contents output.new) bytes.now) }
+    ensures failed { IfErr result (λ e. Falls bytes.now e (W.contents output.old) (W.contents output.new)) }
     ensures unread { IfErr result (λ e. e ≢ errors.Read) }
 {
-    if bytes == RESYNC_REQUEST_BYTES.as_slice() {
-        tally.count_heartbeat();
-        return send(output, &HEARTBEAT_BYTES);
-    }
     if bytes == HEARTBEAT_BYTES.as_slice() {
         tally.count_heartbeat();
     }
@@ -106,7 +92,7 @@ fn perform<H: Wait, G: Gate, W: Write + Faults>(
         × (given.new.items ≡ given.old.items ++ asked answers)
         × Appends (W.contents output.old) (W.contents output.new) out) }
     ensures failed { IfErr result (λ e. (answers : List (Event × List Action)) × (out : List ℕ)
-        × PerformsUntil (standing_worker session.old seat.old context.now.number context.now.moment) (action ∷ []) e answers out session.new.session seat.new
+        × PerformsUntil context.now.shards.now (standing_worker session.old seat.old context.now.number context.now.moment) (action ∷ []) e answers out session.new.session seat.new
         × Appends (W.contents output.old) (W.contents output.new) out) }
     ensures unread { IfErr result (λ e. e ≢ errors.Read) }
 {
@@ -127,7 +113,7 @@ fn perform<H: Wait, G: Gate, W: Write + Faults>(
             tell(session, context.moment, answer, given)
         }
         Action::Copy { table, kind } => {
-            let answer = copy_late(context, seat, table, standing_kind(kind))?;
+            let answer = copy_late(context, seat, table, kind)?;
             tell(session, context.moment, answer, given)
         }
         Action::Teach(batch) => {
@@ -153,7 +139,7 @@ pub(crate) fn perform_all<H: Wait, G: Gate, W: Write + Faults>(
         × (given.items ≡ asked answers)
         × Appends (W.contents output.old) (W.contents output.new) out) }
     ensures failed { IfErr result (λ e. (answers : List (Event × List Action)) × (out : List ℕ)
-        × PerformsUntil (standing_worker session.old seat.old context.now.number context.now.moment) actions.items e answers out session.new.session seat.new
+        × PerformsUntil context.now.shards.now (standing_worker session.old seat.old context.now.number context.now.moment) actions.items e answers out session.new.session seat.new
         × Appends (W.contents output.old) (W.contents output.new) out) }
     ensures unread { IfErr result (λ e. e ≢ errors.Read) }
 {

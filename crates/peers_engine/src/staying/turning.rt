@@ -11,7 +11,6 @@ ghost use Rattle.session_core.specs.declared.state.State.TheVariants as states;
 ghost use Rattle.session_core.specs.Sessions.{Refuses, ended, state_of};
 ghost use Rattle.session_core.specs.Standing.{Stands, Ticks};
 ghost use Rattle.peers_engine.specs.declared.errors.EngineError.TheVariants as errors;
-ghost use Rattle.peers_engine.specs.Doing.{IsRefusal};
 ghost use Rattle.peers_engine.specs.Reading.{IsRead};
 ghost use Rattle.peers_engine.specs.Staying.{AreReopened, FailsToReopen, Responds, RespondsTo, RespondsToUntil, RespondsUntil, StopsStandingTurn, StopsTick, TakesStandingTurn, TakesTick, standing_worker};
 ghost use Rattle.peers_engine.specs.Turns.{first_event};
@@ -59,7 +58,7 @@ fn respond<H: Wait, G: Gate, W: Write + Faults>(
     ensures seat { seat.new.number ≡ seat.old.number }
     ensures done { OnOk result ((out : List ℕ) × Responds (standing_worker session.old seat.old context.now.number context.now.moment) event out (standing_worker session.new seat.new context.now.number context.now.moment)
         × Appends (W.contents output.old) (W.contents output.new) out) }
-    ensures failed { IfErr result (λ e. (out : List ℕ) × RespondsUntil (standing_worker session.old seat.old context.now.number context.now.moment) event e out session.new.session seat.new
+    ensures failed { IfErr result (λ e. (out : List ℕ) × RespondsUntil context.now.shards.now (standing_worker session.old seat.old context.now.number context.now.moment) event e out session.new.session seat.new
         × Appends (W.contents output.old) (W.contents output.new) out) }
     ensures unread { IfErr result (λ e. e ≢ errors.Read) }
     ensures refused { (e : SessionError) → e ≢ refusals.Memory → event ≡ first_event (state_of session.old.session.phase)
@@ -92,7 +91,7 @@ fn receive<H: Wait, G: Gate, R: Read + Faults, W: Write + Faults>(
         × Consumes (R.remaining input.old) (R.remaining input.new) read
         × Appends (W.contents output.old) (W.contents output.new) out) }
     ensures failed { IfErr result (λ e. (received : Option Event) × (read out : List ℕ) × IsRead (IsAtEnd (R.remaining input.new)) received read
-        × RespondsToUntil (standing_worker session.old seat.old context.now.number context.now.moment) received e out session.new.session seat.new
+        × RespondsToUntil context.now.shards.now (standing_worker session.old seat.old context.now.number context.now.moment) received e out session.new.session seat.new
         × Consumes (R.remaining input.old) (R.remaining input.new) read
         × Appends (W.contents output.old) (W.contents output.new) out) }
     ensures read { result ≡ Err errors.Read → Rose (R.failed input.old) (R.failed input.new) }
@@ -122,7 +121,7 @@ pub(crate) fn take_turn<H: Wait, G: Gate, R: Read + Faults, W: Write + Faults>(
         × Consumes (R.remaining input.old) (R.remaining input.new) read
         × Appends (W.contents output.old) (W.contents output.new) out) }
     ensures failed { IfErr result (λ e. (received : Option Event) × (read out : List ℕ) × IsRead (IsAtEnd (R.remaining input.new)) received read
-        × StopsStandingTurn (input.new ≡ input.old) (standing_worker session.old seat.old context.now.number context.now.moment) received e out session.new.session seat.new
+        × StopsStandingTurn context.now.shards.now (input.new ≡ input.old) (standing_worker session.old seat.old context.now.number context.now.moment) received e out session.new.session seat.new
         × Consumes (R.remaining input.old) (R.remaining input.new) read
         × Appends (W.contents output.old) (W.contents output.new) out) }
     ensures read { result ≡ Err errors.Read → Rose (R.failed input.old) (R.failed input.new) }
@@ -147,8 +146,8 @@ fn reopen_all<H: Wait, G>(
 ) -> Result<(), EngineError>
     ensures seat { seat.new.number ≡ seat.old.number }
     ensures reopened { OnOk result (AreReopened context.now.number version seat.old tables.now seat.new) }
-    ensures refused { IfErr result IsRefusal }
-    ensures left { OnErr result (FailsToReopen context.now.number version seat.old tables.now seat.new) }
+    ensures left { IfErr result (λ e. FailsToReopen context.now.shards.now context.now.number version seat.old tables.now e seat.new) }
+    ensures unread { IfErr result (λ e. e ≢ errors.Read) }
 {
     for table in tables {
         reopen(context, seat, *table, version)?;
@@ -178,7 +177,7 @@ pub(crate) fn take_tick<H: Wait, G: Gate, W: Write + Faults>(
     ensures seat { seat.new.number ≡ seat.old.number }
     ensures done { OnOk result ((out : List ℕ) × TakesTick (standing_worker session.old seat.old context.now.number context.now.moment) out (standing_worker session.new seat.new context.now.number context.now.moment)
         × Appends (W.contents output.old) (W.contents output.new) out) }
-    ensures failed { IfErr result (λ e. (out : List ℕ) × StopsTick (standing_worker session.old seat.old context.now.number context.now.moment) e out session.new.session seat.new
+    ensures failed { IfErr result (λ e. (out : List ℕ) × StopsTick context.now.shards.now (standing_worker session.old seat.old context.now.number context.now.moment) e out session.new.session seat.new
         × Appends (W.contents output.old) (W.contents output.new) out) }
     ensures unread { IfErr result (λ e. e ≢ errors.Read) }
     ensures refused { (e : SessionError) → e ≢ refusals.Memory → Refuses session.old.session.phase events.Turn e

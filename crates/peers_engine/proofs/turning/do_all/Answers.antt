@@ -11,7 +11,7 @@ returns-in_err-do_action-clause-failed g c =
     let contents = g.W.Write.contents in
     let p = err_from_is_err_and c.from_residual.result c.from_residual.ensures.1 in
     rw (p.1, p.2)
-    (one_fails (worker c.args.session.now c.args.seat.now c.args.context.now.number c.args.context.now.moment) (worker c.loop-action.session c.loop-action.seat c.args.context.now.number c.args.context.now.moment)
+    (one_fails c.args.context.now.shards.now (worker c.args.session.now c.args.seat.now c.args.context.now.number c.args.context.now.moment) (worker c.loop-action.session c.loop-action.seat c.args.context.now.number c.args.context.now.moment)
     c.do_action.new.session c.do_action.new.seat c.args.actions.items c.loop-action.yielded (into_iter_items c.next.new.self) c.loop-action.given.items c.in-Some.action c.in_err-do_action.field-0.0
     (contents c.args.output.now) (contents c.loop-action.output) (contents c.do_action.new.output)
     (taken_next c.args.actions.items c.into_iter-action-iterator.result c.loop-action.action-iterator c.next.new.self c.loop-action.yielded c.in-Some.action

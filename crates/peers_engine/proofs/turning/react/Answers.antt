@@ -24,7 +24,7 @@ pub returns-in_err-next-clause-failed : goal.returns-in_err-next-clause-failed
 returns-in_err-next-clause-failed g c =
     let p = err_from_is_err_and c.from_residual-in_err-next.result c.from_residual-in_err-next.ensures.1 in
     rw (p.1, p.2)
-    (first_fails (worker c.args.session.now c.args.seat.now c.args.context.now.number c.args.context.now.moment) c.on.new.self c.do_all.new.session c.do_all.new.seat c.args.event c.in_ok-actions.actions.items c.in_err-next.field-0.0
+    (first_fails c.args.context.now.shards.now (worker c.args.session.now c.args.seat.now c.args.context.now.number c.args.context.now.moment) c.on.new.self c.do_all.new.session c.do_all.new.seat c.args.event c.in_ok-actions.actions.items c.in_err-next.field-0.0
     (g.W.Write.contents c.args.output.now) (g.W.Write.contents c.do_all.new.output)
     c.in_ok-actions.ensures.goes c.in_err-next.ensures.failed)
 
@@ -33,7 +33,7 @@ returns-in_err-do_all-clause-failed g c =
     let contents = g.W.Write.contents in
     let p = err_from_is_err_and c.from_residual-in_err-do_all.result c.from_residual-in_err-do_all.ensures.1 in
     rw (p.1, p.2)
-    (second_fails (worker c.args.session.now c.args.seat.now c.args.context.now.number c.args.context.now.moment) (worker c.do_all.new.session c.do_all.new.seat c.args.context.now.number c.args.context.now.moment) c.on.new.self c.do_all-2.new.session c.do_all-2.new.seat c.args.event c.in_ok-actions.actions.items c.in_ok-next.next.items
+    (second_fails c.args.context.now.shards.now (worker c.args.session.now c.args.seat.now c.args.context.now.number c.args.context.now.moment) (worker c.do_all.new.session c.do_all.new.seat c.args.context.now.number c.args.context.now.moment) c.on.new.self c.do_all-2.new.session c.do_all-2.new.seat c.args.event c.in_ok-actions.actions.items c.in_ok-next.next.items
     c.in_err-do_all.field-0.0
     (contents c.args.output.now) (contents c.do_all.new.output) (contents c.do_all-2.new.output)
     c.in_ok-actions.ensures.goes c.in_ok-next.ensures.done c.in_err-do_all.ensures.failed)

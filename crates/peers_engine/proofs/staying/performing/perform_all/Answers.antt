@@ -23,7 +23,7 @@ returns-in_err-perform-clause-failed g c =
     let contents = g.W.Write.contents in
     let p = err_from_is_err_and c.from_residual.result c.from_residual.ensures.1 in
     rw (p.1, p.2)
-    (one_until (standing_worker c.args.session.now c.args.seat.now c.args.context.now.number c.args.context.now.moment) (standing_worker c.loop-action.session c.loop-action.seat c.args.context.now.number c.args.context.now.moment)
+    (one_until c.args.context.now.shards.now (standing_worker c.args.session.now c.args.seat.now c.args.context.now.number c.args.context.now.moment) (standing_worker c.loop-action.session c.loop-action.seat c.args.context.now.number c.args.context.now.moment)
     c.perform.new.session.session c.perform.new.seat c.args.actions.items c.loop-action.yielded (into_iter_items c.next.new.self) c.loop-action.given.items c.in-Some.action c.in_err-perform.field-0.0
     (contents c.args.output.now) (contents c.loop-action.output) (contents c.perform.new.output)
     (taken_next c.args.actions.items c.into_iter-action-iterator.result c.loop-action.action-iterator c.next.new.self c.loop-action.yielded c.in-Some.action

@@ -24,17 +24,17 @@ pub returns-in_err-left-clause-failed : goal.returns-in_err-left-clause-failed
 returns-in_err-left-clause-failed g c =
     let p = err_from_is_err_and c.from_residual.result c.from_residual.ensures.1 in
     rw (p.1, p.2)
-    (tick_refused (standing_worker c.args.session.now c.args.seat.now c.args.context.now.number c.args.context.now.moment) c.give_tick.new.session.session (errors.Session c.in_err-left.field-0.0) (g.W.Write.contents c.args.output.now) (c.in_err-left.field-0.0, c.in_err-left.ensures.refused, refl) c.in_err-left.ensures.ended)
+    (tick_refused c.args.context.now.shards.now (standing_worker c.args.session.now c.args.seat.now c.args.context.now.number c.args.context.now.moment) c.give_tick.new.session.session (errors.Session c.in_err-left.field-0.0) (g.W.Write.contents c.args.output.now) (c.in_err-left.field-0.0, c.in_err-left.ensures.refused, refl) c.in_err-left.ensures.ended)
 
 pub returns-in_err-reopen_all-clause-failed : goal.returns-in_err-reopen_all-clause-failed
 returns-in_err-reopen_all-clause-failed g c =
     let given = c.in_ok-left.field-0 in
     let p = err_from_is_err_and c.from_residual-in_err-reopen_all.result c.from_residual-in_err-reopen_all.ensures.1 in
     rw (p.1, p.2)
-    (tick_left (standing_worker c.args.session.now c.args.seat.now c.args.context.now.number c.args.context.now.moment) c.give_tick.new.session c.reopen_all.new.seat given.left.items given.actions.items c.in_err-reopen_all.field-0.0 (g.W.Write.contents c.args.output.now)
-    c.in_ok-left.ensures.ticks c.in_err-reopen_all.ensures.refused
-    (subst (λ (v : Version). FailsToReopen c.args.context.now.number v c.args.seat.now given.left.items c.reopen_all.new.seat) (c.opened_with.ensures ∙ ap opened_with c.version.ensures)
-    (subst (λ (x : List ℕ). FailsToReopen c.args.context.now.number c.opened_with.result c.args.seat.now x c.reopen_all.new.seat) c.as_slice-2.ensures.value c.in_err-reopen_all.ensures.left)))
+    (tick_left c.args.context.now.shards.now (standing_worker c.args.session.now c.args.seat.now c.args.context.now.number c.args.context.now.moment) c.give_tick.new.session c.reopen_all.new.seat given.left.items given.actions.items c.in_err-reopen_all.field-0.0 (g.W.Write.contents c.args.output.now)
+    c.in_ok-left.ensures.ticks
+    (subst (λ (v : Version). FailsToReopen c.args.context.now.shards.now c.args.context.now.number v c.args.seat.now given.left.items c.in_err-reopen_all.field-0.0 c.reopen_all.new.seat) (c.opened_with.ensures ∙ ap opened_with c.version.ensures)
+    (subst (λ (x : List ℕ). FailsToReopen c.args.context.now.shards.now c.args.context.now.number c.opened_with.result c.args.seat.now x c.in_err-reopen_all.field-0.0 c.reopen_all.new.seat) c.as_slice-2.ensures.value c.in_err-reopen_all.ensures.left)))
 
 pub returns-in_err-perform_all-clause-failed : goal.returns-in_err-perform_all-clause-failed
 returns-in_err-perform_all-clause-failed g c =
@@ -42,7 +42,7 @@ returns-in_err-perform_all-clause-failed g c =
     let given = c.in_ok-left.field-0 in
     let p = err_from_is_err_and c.from_residual-in_err-perform_all.result c.from_residual-in_err-perform_all.ensures.1 in
     rw (p.1, p.2)
-    (tick_fails (standing_worker c.args.session.now c.args.seat.now c.args.context.now.number c.args.context.now.moment) c.give_tick.new.session c.perform_all.new.session.session c.reopen_all.new.seat c.perform_all.new.seat given.left.items given.actions.items c.in_err-perform_all.field-0.0
+    (tick_fails c.args.context.now.shards.now (standing_worker c.args.session.now c.args.seat.now c.args.context.now.number c.args.context.now.moment) c.give_tick.new.session c.perform_all.new.session.session c.reopen_all.new.seat c.perform_all.new.seat given.left.items given.actions.items c.in_err-perform_all.field-0.0
     (contents c.args.output.now) (contents c.perform_all.new.output)
     c.in_ok-left.ensures.ticks
     (subst (λ (v : Version). AreReopened c.args.context.now.number v c.args.seat.now given.left.items c.reopen_all.new.seat) (c.opened_with.ensures ∙ ap opened_with c.version.ensures)

@@ -27,7 +27,7 @@ pub returns-then-branch-clause-failed : goal.returns-then-branch-clause-failed
 returns-then-branch-clause-failed g c =
     let contents = g.W.Write.contents in
     IfErr-weaker c.receive.result _ _
-    (λ error. stops_read (standing_worker c.args.session.now c.args.seat.now c.args.context.now.number c.args.context.now.moment) (standing_worker c.respond.new.session c.respond.new.seat c.args.context.now.number c.args.context.now.moment) c.receive.new.session.session c.receive.new.seat c.first_event-event.result error
+    (λ error. stops_read c.args.context.now.shards.now (standing_worker c.args.session.now c.args.seat.now c.args.context.now.number c.args.context.now.moment) (standing_worker c.respond.new.session c.respond.new.seat c.args.context.now.number c.args.context.now.moment) c.receive.new.session.session c.receive.new.seat c.first_event-event.result error
     (g.R.Read.remaining c.args.input.now) (g.R.Read.remaining c.receive.new.input)
     (contents c.args.output.now) (contents c.respond.new.output) (contents c.receive.new.output)
     (c.first_event-event.ensures ∙ ap first_event c.state.ensures) c.in_ok-respond.ensures.done)
@@ -38,5 +38,5 @@ returns-in_err-respond-clause-failed g c =
     let contents = g.W.Write.contents in
     let p = err_from_is_err_and c.from_residual.result c.from_residual.ensures.1 in
     rw (p.1, p.2)
-    (stops_unread (standing_worker c.args.session.now c.args.seat.now c.args.context.now.number c.args.context.now.moment) c.respond.new.session.session c.respond.new.seat c.first_event-event.result c.in_err-respond.field-0.0 (g.R.Read.remaining c.args.input.now)
+    (stops_unread c.args.context.now.shards.now (standing_worker c.args.session.now c.args.seat.now c.args.context.now.number c.args.context.now.moment) c.respond.new.session.session c.respond.new.seat c.first_event-event.result c.in_err-respond.field-0.0 (g.R.Read.remaining c.args.input.now)
     (contents c.args.output.now) (contents c.respond.new.output) (c.first_event-event.ensures ∙ ap first_event c.state.ensures) c.in_err-respond.ensures.failed refl)

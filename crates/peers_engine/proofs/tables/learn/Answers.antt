@@ -1,0 +1,17 @@
+use Rattle.std.proofs.Common.{inl, inr, refl}
+use Rattle.std.proofs.lemmas.Result.{err_from_is_err_and, on_ok_weaker}
+use Rattle.peers_engine.proofs.CallLaws.{refusal_weaker, refused_weaker}
+use Rattle.peers_engine.proofs.tables.learn.Goals as goal
+
+pub returns-clause-learned : goal.returns-clause-learned
+returns-clause-learned g c =
+    on_ok_weaker c.learn_at.result (λ learned. (c.deref_mut-locked.result.now, learned)) c.learn_at.ensures.learned
+
+pub returns-clause-refused : goal.returns-clause-refused
+returns-clause-refused g c =
+    refused_weaker c.learn_at.result (λ refuses. inr (c.deref_mut-locked.result.now, refuses)) c.learn_at.ensures.refused
+
+pub returns-in_err-guard-clause-refused : goal.returns-in_err-guard-clause-refused
+returns-in_err-guard-clause-refused g c =
+    let p = err_from_is_err_and c.from_residual.result c.from_residual.ensures.1 in
+    rw (p.1, p.2) (refusal_weaker (λ missing. inl (missing, refl)) c.in_err-guard.field-0.0 c.in_err-guard.ensures.refused)
