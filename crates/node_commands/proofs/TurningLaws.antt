@@ -8,6 +8,7 @@ use Rattle.session_core.specs.declared.event.Event.{Event}
 use Rattle.session_core.specs.declared.event.Event.TheVariants as events
 use Rattle.session_core.specs.declared.state.State.TheVariants as states
 use Rattle.table_shards.specs.Receipts.{SeatState}
+use Rattle.table_shards.specs.Rounds.{ShardsState}
 use Rattle.session_core.specs.Sessions.{SessionState, state_of}
 use Rattle.peers_engine.specs.declared.errors.EngineError.{EngineError}
 use Rattle.peers_engine.specs.declared.turned.Turned.{Turned}
@@ -167,10 +168,10 @@ still_takes : {untouched : Type 0} (w e : WorkerAt) (event : Option Event) (rece
 still_takes w e event received sent reads (inl (still, none, reacts)) = inl (subst (λ (x : Option Event). IsRead (received ≡ []) x received) none reads, none, reacts)
 still_takes w e event received sent reads (inr more) = inr more
 
-still_stops : {untouched : Type 0} (w : WorkerAt) (e : SessionState) (seat : SeatState) (event : Option Event) (error : EngineError) (received sent : List ℕ) → IsRead (received ≡ []) event received → StopsTurn untouched w event error sent e seat
-    → StopsTurn (received ≡ []) w event error sent e seat
-still_stops w e seat event error received sent reads (inl (still, none, halts)) = inl (subst (λ (x : Option Event). IsRead (received ≡ []) x received) none reads, none, halts)
-still_stops w e seat event error received sent reads (inr more) = inr more
+still_stops : (shards : ShardsState) {untouched : Type 0} (w : WorkerAt) (e : SessionState) (seat : SeatState) (event : Option Event) (error : EngineError) (received sent : List ℕ) → IsRead (received ≡ []) event received → StopsTurn shards untouched w event error sent e seat
+    → StopsTurn shards (received ≡ []) w event error sent e seat
+still_stops shards w e seat event error received sent reads (inl (still, none, halts)) = inl (subst (λ (x : Option Event). IsRead (received ≡ []) x received) none reads, none, halts)
+still_stops shards w e seat event error received sent reads (inr more) = inr more
 
 ok_way : {untouched : Type 0} (at_end : Type 0) (w e : WorkerAt) (gave : Turned) (from to a b : Option (List ℕ))
     → (event : Option Event) × (received sent : List ℕ) × IsRead at_end event received × TakesTurn untouched w event sent e × Consumes from to received × Appends a b sent
@@ -179,21 +180,21 @@ ok_way at_end w e gave from to a b (event, received, sent, given, takes, consume
     let reads = still_read at_end event received given in
     (received, sent, ((event, reads, still_takes w e event received sent reads takes), closed), consumed, appended)
 
-err_way : {untouched : Type 0} (at_end : Type 0) (w e : WorkerAt) (error : EngineError) (from to a b : Option (List ℕ))
-    → (event : Option Event) × (received sent : List ℕ) × IsRead at_end event received × StopsTurn untouched w event error sent e.session e.seat × Consumes from to received × Appends a b sent
+err_way : (shards : ShardsState) {untouched : Type 0} (at_end : Type 0) (w e : WorkerAt) (error : EngineError) (from to a b : Option (List ℕ))
+    → (event : Option Event) × (received sent : List ℕ) × IsRead at_end event received × StopsTurn shards untouched w event error sent e.session e.seat × Consumes from to received × Appends a b sent
     → state_of e.session.phase ≡ states.Ended → HasTaken w (Err error) e from to a b
-err_way at_end w e error from to a b (event, received, sent, given, stops, consumed, appended) over =
+err_way shards at_end w e error from to a b (event, received, sent, given, stops, consumed, appended) over =
     let reads = still_read at_end event received given in
-    (received, sent, ((event, reads, still_stops w e.session e.seat event error received sent reads stops), over), consumed, appended)
+    (received, sent, ((event, shards, reads, still_stops shards w e.session e.seat event error received sent reads stops), over), consumed, appended)
 
 -- a turn, from the contract for its success and the one for its error
-pub both_ways : (at_end untouched : Type 0) (w e : WorkerAt) (gave : Result Turned EngineError) (from to a b : Option (List ℕ))
+pub both_ways : (shards : ShardsState) (at_end untouched : Type 0) (w e : WorkerAt) (gave : Result Turned EngineError) (from to a b : Option (List ℕ))
     → OnOk gave ((event : Option Event) × (received sent : List ℕ) × IsRead at_end event received × TakesTurn untouched w event sent e × Consumes from to received × Appends a b sent)
     → IfOk gave (λ t. (t ≡ turned.Closed) ↔ (state_of e.session.phase ≡ states.Ended))
-    → IfErr gave (λ error. (event : Option Event) × (received sent : List ℕ) × IsRead at_end event received × StopsTurn untouched w event error sent e.session e.seat × Consumes from to received × Appends a b sent)
+    → IfErr gave (λ error. (event : Option Event) × (received sent : List ℕ) × IsRead at_end event received × StopsTurn shards untouched w event error sent e.session e.seat × Consumes from to received × Appends a b sent)
     → OnErr gave (state_of e.session.phase ≡ states.Ended) → HasTaken w gave e from to a b
-both_ways at_end untouched w e (Ok gave) from to a b written closed stopped over = ok_way at_end w e gave from to a b written closed
-both_ways at_end untouched w e (Err error) from to a b written closed stopped over = err_way at_end w e error from to a b stopped over
+both_ways shards at_end untouched w e (Ok gave) from to a b written closed stopped over = ok_way at_end w e gave from to a b written closed
+both_ways shards at_end untouched w e (Err error) from to a b written closed stopped over = err_way shards at_end w e error from to a b stopped over
 
 -- a turn at the moment that belongs to it is the turn after `before` others
 pub taken_after : (pace : Pace) (before now : ℕ) (w e : Worker) (gave : Result Turned EngineError) (from to a b : Option (List ℕ)) → now ≡ moment_of pace before

@@ -6,6 +6,7 @@ use Rattle.session_core.specs.declared.error.SessionError.TheVariants as refusal
 use Rattle.session_core.specs.declared.event.Event.{Event}
 use Rattle.session_core.specs.declared.state.State.TheVariants as states
 use Rattle.session_core.specs.Sessions.{SessionState, state_of}
+use Rattle.table_shards.specs.Rounds.{ShardsState}
 use Rattle.peers_engine.specs.declared.errors.EngineError.{EngineError}
 use Rattle.peers_engine.specs.declared.errors.EngineError.TheVariants as errors
 use Rattle.peers_engine.specs.declared.turned.Turned.{Turned}
@@ -53,12 +54,13 @@ abbrev pub turn_after : Pace → ℕ → Worker → WorkerAt
 turn_after pace before w = turn_at (moment_of pace before) w
 
 -- A turn takes the worker to another state, returns its result, and received and sent the bytes given. After an error the session
--- is over.
+-- is over; no clause says here which tables it was given.
 abbrev pub Takes : WorkerAt → Result Turned EngineError → List ℕ → List ℕ → WorkerAt → Type 0
 Takes w (Ok gave) received sent e =
     ((event : Option Event) × IsRead (received ≡ []) event received × TakesTurn (received ≡ []) w event sent e) × ((gave ≡ turned.Closed) ↔ (state_of e.session.phase ≡ states.Ended))
 Takes w (Err error) received sent e =
-    ((event : Option Event) × IsRead (received ≡ []) event received × StopsTurn (received ≡ []) w event error sent e.session e.seat) × (state_of e.session.phase ≡ states.Ended)
+    ((event : Option Event) × (shards : ShardsState) × IsRead (received ≡ []) event received × StopsTurn shards (received ≡ []) w event error sent e.session e.seat)
+    × (state_of e.session.phase ≡ states.Ended)
 
 -- nothing more is received or sent, and the worker stays as it is
 abbrev pub Rests : Worker → List ℕ → List ℕ → Worker → Type 0
