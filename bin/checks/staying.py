@@ -29,7 +29,7 @@ LIMIT = 600
 # Those that take longest, which begin first.
 LONGEST = """three-faults million-changes haproxy-starts-again haproxy-that-connects haproxy-that-is-connected-to deaf stops-beside-the-deaf
     heartbeats heartbeats-of-a-connector idle bytes-are-enough silent silent-to-a-connector two-of-three-killed
-    killed-and-started-again stopped-and-started-again no-answer-to-a-hello refused-by-a-status""".split()
+    killed-and-started-again stopped-and-started-again no-answer-to-a-hello refused-by-a-status falls-back""".split()
 
 
 trials = []

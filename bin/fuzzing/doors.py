@@ -16,7 +16,7 @@ from fuzzing.programs import require
 from fuzzing.sessions import ACCEPTED
 from fuzzing.standing import MARK, NAME, Stand, random_local_roster, random_rounds, stood
 from fuzzing.tables import Table
-from peering.far import hello, kept_open
+from peering.far import OLDER_VERSION, VERSION, hello, kept_open
 
 PEERS = (b'b', b'c', b'd')
 LONGEST_LINE = 512
@@ -36,7 +36,7 @@ def status_for(said):
     third = THIRD.fullmatch(lines[2])
     if not lines[0].startswith(b'HAProxyS ') or not third:
         return b'501\n'
-    if lines[0] != b'HAProxyS 2.1':
+    if lines[0] not in (VERSION, OLDER_VERSION):
         return b'502\n'
     if lines[1] != NAME:
         return b'503\n'
@@ -62,7 +62,7 @@ def hostile_hello(random):
     if what == 0:
         return hello(NAME.decode(), (MARK + b'%d' % random.randrange(9)).decode())
     if what == 1:
-        return random.choice((HELLO, HELLO.replace(b'\n', b'\r\n'), hello('n', 'n'), hello(MARK.decode(), 'c'), hello('n', 'c', b'HAProxyS 2.0'),
+        return random.choice((HELLO, HELLO.replace(b'\n', b'\r\n'), hello('n', 'n'), hello(MARK.decode(), 'c'), hello('n', 'c', OLDER_VERSION),
                               hello('n', 'c', b'HAProxyS 2.1 '), hello('n', 'c', b'HAProxyX 2.1'), b'HAProxyS 2.1\nn\nc 1\n',
                               b'HAProxyS 2.1\nn\nc  1 1\n', b'HAProxyS 2.1\nn\nc 1 1 1\n', b'HAProxyS 2.1\nn\nc %s 1\n' % (b'9' * 300)))
     if what == 2:

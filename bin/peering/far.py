@@ -20,7 +20,7 @@ from peering.trial import PATIENCE, require, wait
 
 REQUEST, FINISHED, PARTIAL, CONFIRMED, HEARTBEAT = (bytes((0, at)) for at in range(5))
 PROTOCOL_ERROR, SIZE_LIMIT = b'\1\0', b'\1\1'
-VERSION = b'HAProxyS 2.1'
+VERSION, OLDER_VERSION = b'HAProxyS 2.1', b'HAProxyS 2.0'
 
 # How the kernel says when bytes came, by its own clock, however late they are read.
 STAMPS = 35
@@ -237,11 +237,12 @@ class Far:
         self.peer.close()
 
 
-def connected(trial, node, name='b', manners=Manners(), behind=b''):
-    """Returns a far side that connected to a node under a name. `behind` goes out right behind its hello."""
+def connected(trial, node, name='b', manners=Manners(), behind=b'', version=VERSION):
+    """Returns a far side that connected to a node under a name. `behind` goes out right behind its hello, of which `version` is the
+    first line."""
     peer = kept_open((node.host, node.port))
     asked = time.monotonic()
-    peer.sendall(hello(node.name, name) + behind)
+    peer.sendall(hello(node.name, name, version) + behind)
     status = status_of(peer)
     if status != b'200\n':
         peer.close()
@@ -250,8 +251,8 @@ def connected(trial, node, name='b', manners=Manners(), behind=b''):
 
 
 class Door:
-    """Listens for connections of a node. `tries` has the moment and the hello of each; `fars` are those that were answered
-    with 200, and `kept` those that got no status at all."""
+    """Listens for connections of a node. `status` answers each hello, or returns what does if it is a function of the hello. `tries` has
+    the moment and the hello of each; `fars` are those that were answered with 200, and `kept` those that got no status at all."""
 
     def __init__(self, trial, manners=Manners(), status=b'200\n'):
         self.trial = trial
@@ -288,12 +289,16 @@ class Door:
                 if not came:
                     break
                 read += came
-            peer.sendall(self.status)
         except OSError:
             pass
-        if self.status == b'200\n':
+        status = self.status(read) if callable(self.status) else self.status
+        try:
+            peer.sendall(status)
+        except OSError:
+            pass
+        if status == b'200\n':
             self.fars.append(self.trial.closes(Far(peer, self.manners)))
-        elif self.status:
+        elif status:
             peer.close()
         else:
             self.kept.append(self.trial.closes(peer))

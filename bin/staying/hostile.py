@@ -7,8 +7,8 @@ import time
 from fuzzing.messages import DEFINITION, TABLE_CLASS, encoded, message
 from fuzzing.tables import KINDS
 from fuzzing.streams import OVER
-from peering.far import (CONFIRMED, HEARTBEAT, PROTOCOL_ERROR, REQUEST, SIZE_LIMIT, Door, Manners, connected, hello, is_closed, kept_open,
-                         status_of)
+from peering.far import (CONFIRMED, HEARTBEAT, OLDER_VERSION, PROTOCOL_ERROR, REQUEST, SIZE_LIMIT, Door, Manners, connected, hello,
+                         is_closed, kept_open, status_of)
 from peering.lessons import definition, switch, table, update
 from peering.node import T1, Node, address
 from peering.trial import between, check, equal, require, wait
@@ -215,22 +215,25 @@ def hellos(trial):
     """hellos are answered with the codes of the protocol"""
     node = node_of_b(trial)
     for data, status in (
-            (hello('n', 'b', b'HAProxyS 2.0'), b'502\n'), (hello('n', 'b', b'HAProxyS 3.0'), b'502\n'), (hello('x', 'b'), b'503\n'),
+            (hello('n', 'b', b'HAProxyS 2.00'), b'502\n'), (hello('n', 'b', b'HAProxyS 3.0'), b'502\n'), (hello('x', 'b'), b'503\n'),
             (hello('N', 'b'), b'503\n'), (hello('n', 'z'), b'504\n'), (hello('n', 'n'), b'504\n'), (hello('n', 'b', b'HAProxyX 2.1'), b'501\n'),
+            (hello('x', 'b', OLDER_VERSION), b'503\n'), (hello('n', 'z', OLDER_VERSION), b'504\n'),
             (b'GET / HTTP/1.1\r\nHost: n\r\n\r\n', b'501\n'), (b'HAProxyS 2.1\nn\nb 1\n', b'501\n'), (b'HAProxyS 2.1\nn\nb x 1\n', b'501\n'),
             (b'\n\n\n', b'501\n'), (b'H' * 513, b'501\n'), (b'HAProxyS 2.1\n' + b'n' * 600, b'501\n')):
         equal(answer_to(trial, node, data), status, 'the answer to %r' % data)
     equal(answer_to(trial, node, b'HAProxyS 2.1\r\nn\r\nb 12345 678\r\n'), b'200\n', 'the answer to a hello with CR')
     wait(lambda: node.peer('b')['sessions'] == '1', 2, 'one session', lambda: node.peer('b'))
+    equal(answer_to(trial, node, hello('n', 'b', OLDER_VERSION)), b'200\n', 'the answer to a hello of version 2.0')
+    wait(lambda: node.peer('b')['sessions'] == '2', 2, 'two sessions', lambda: node.peer('b'))
 
 
 @check
 def refused_hellos(trial):
-    """a hello that is refused, also one of version 2.0 that names a peer, ends no session that stands"""
+    """a hello that is refused, also one of another version that names a peer, ends no session that stands"""
     node = node_of_b(trial)
     b = connected(trial, node)
-    answers_to = ((hello('n', 'b', b'HAProxyS 2.0'), b'502\n'), (hello('n', 'b', b'HAProxyS 2.2'), b'502\n'),
-                  (hello('x', 'b', b'HAProxyS 2.0'), b'503\n'), (hello('n', 'z', b'HAProxyS 2.0'), b'504\n'))
+    answers_to = ((hello('n', 'b', b'HAProxyS 1.0'), b'502\n'), (hello('n', 'b', b'HAProxyS 2.2'), b'502\n'),
+                  (hello('x', 'b', OLDER_VERSION), b'503\n'), (hello('n', 'z', OLDER_VERSION), b'504\n'))
     for value, (data, status) in enumerate(answers_to, 1):
         equal(answer_to(trial, node, data), status, 'the answer to %r' % data)
         still_learns(node, b, value)

@@ -319,17 +319,18 @@ def peers_shown(trial):
     node = node_of_b(trial, peers=('b', 'c'), tables=KINDS[:2])
     lines = node.ask('show peers')
     matches(r'node n moment=[0-9]+ up_to_date=no( .*)?', lines[0], 'the first line')
-    pattern = r'peer %s state=%s role=%s since=[0-9]+ sessions=%d heartbeats_sent=[0-9]+ heartbeats_received=[0-9]+ faults=0 last_end=-( .*)?'
+    pattern = (r'peer %s state=%s role=%s since=[0-9]+ sessions=%d heartbeats_sent=[0-9]+ heartbeats_received=[0-9]+ faults=0 last_end=-'
+               r' version=%s( .*)?')
     equal(len(lines), 3, 'lines without a session')
     for name, line in zip('bc', lines[1:]):
-        matches(pattern % (name, 'down', '-', 0), line, 'a peer without a session')
+        matches(pattern % (name, 'down', '-', 0, '-'), line, 'a peer without a session')
     connected(trial, node, 'b').gets(CONFIRMED, 3)
     wait(lambda: node.peer('b')['state'] == 'ready', 2, 'the peer is ready')
     lines = node.ask('show peers')
-    matches(pattern % ('b', 'ready', 'accept', 1), lines[1], 'a peer with a session')
+    matches(pattern % ('b', 'ready', 'accept', 1, r'2\.1'), lines[1], 'a peer with a session')
     for name, line in zip(('t1', 'v4'), lines[2:4]):
         matches(r'table b %s taught=0 acknowledged=0 received=- left=no( .*)?' % name, line, 'a table of it')
-    matches(pattern % ('c', 'down', '-', 0), lines[4], 'the other peer')
+    matches(pattern % ('c', 'down', '-', 0, '-'), lines[4], 'the other peer')
     equal(len(lines), 5, 'lines')
 
 

@@ -4,14 +4,15 @@ import os
 import time
 
 from fuzzing.messages import acknowledgement
-from peering.far import (CONFIRMED, FINISHED, HEARTBEAT, PROTOCOL_ERROR, REQUEST, Door, Manners, connected, hello, is_closed, kept_open,
-                         status_of)
+from peering.far import (CONFIRMED, FINISHED, HEARTBEAT, OLDER_VERSION, PROTOCOL_ERROR, REQUEST, VERSION, Door, Manners, connected, hello,
+                         is_closed, kept_open, status_of)
 from peering.lessons import definition, table, update
 from peering.node import T1, Node, address
 from peering.ports import held
 from peering.trial import Skipped, between, check, equal, matches, require, wait
 
 T1_THERE = table(77, 't1')
+T1_THAT_ENDS = 'table 1 t1 integer 4 600000 gpc0'
 KEEPS_QUIET = Manners(answer=b'')
 
 
@@ -92,6 +93,41 @@ def refused_by_a_status(trial):
     between(1.9, third - second, 4.6, 'seconds between two tries')
 
 
+def versions_said(door):
+    """Returns the first line of each hello that a node said at a door."""
+    return [said.split(b'\n')[0] for _, said in door.tries]
+
+
+@check
+def falls_back(trial):
+    """a node whose hello is refused with 502 says 2.0 in its next one, after the usual pause, and 2.1 in the one after that"""
+    door = Door(trial, status=b'502\n')
+    node = Node(trial, peers=('b ' + address(door.port),)).start()
+    moments = door.tried(4, 16)
+    for before, moment in zip(moments, moments[1:]):
+        between(1.9, moment - before, 4.6, 'seconds between two tries')
+    equal(versions_said(door)[:4], [VERSION, OLDER_VERSION, VERSION, OLDER_VERSION], 'the versions of the hellos')
+    equal((node.peer('b')['sessions'], node.peer('b')['version']), ('0', '-'), 'sessions, and the version without one')
+
+
+@check
+def peer_of_version_2_0(trial):
+    """a peer that refuses 2.1 with 502 and takes 2.0 is taught without lives, and gets a hello of 2.1 again at the attempt after that"""
+    door = Door(trial, status=lambda said: b'200\n' if said.startswith(OLDER_VERSION + b'\n') else b'502\n')
+    node = Node(trial, peers=('b ' + address(door.port),), tables=(T1_THAT_ENDS,)).start()
+    far = door.far(seconds=8)
+    up_to_date(node)
+    wait(lambda: node.peer('b')['state'] == 'ready', 2, 'the peer is ready')
+    equal((node.peer('b')['role'], node.peer('b')['version']), ('connect', '2.0'), 'the role, the version')
+    node.ask('track t1 7 add gpc0 1')
+    far.gets_row('t1', 7, (1,))
+    equal(lives(far), {None}, 'the lives of updates')
+    far.stands()
+    far.close()
+    door.tried(3, 6)
+    equal(versions_said(door)[:3], [VERSION, OLDER_VERSION, VERSION], 'the versions of the hellos')
+
+
 @check
 def no_answer_to_a_hello(trial):
     """a node closes a connection whose far side never answers its hello"""
@@ -99,7 +135,7 @@ def no_answer_to_a_hello(trial):
     node = Node(trial, peers=('b ' + address(door.port),)).start()
     begun = door.tried(1, 3)[0]
     time.sleep(0.3)
-    equal(node.peer('b')['state'], 'down', 'the state during the hello')
+    equal((node.peer('b')['state'], node.peer('b')['version']), ('down', '-'), 'the state and the version during the hello')
     require(is_closed(door.kept[0], 12), 'the connection is open')
     between(1.9, time.monotonic() - begun, 12, 'seconds until it is closed')
 
@@ -234,6 +270,38 @@ def pushes(trial):
     equal({name: node.shared('b', 't1')[name] for name in ('taught', 'acknowledged', 'received', 'left')},
           {'taught': '5', 'acknowledged': '5', 'received': '-', 'left': 'no'}, 'the table of the peer')
     node.shows('digbaro_rows_taught_total', 10)
+
+
+def lives(far):
+    """Returns the lives of the updates of `t1` that came to a far side."""
+    return {one.life for one in far.updates('t1')}
+
+
+@check
+def version_2_0(trial):
+    """a peer that says version 2.0 is taught without lives, in resyncs too, and is shown with it; one of 2.1 after it gets lives"""
+    node = node_of_b(trial, tables=(T1_THAT_ENDS,))
+    older = connected(trial, node, version=OLDER_VERSION)
+    up_to_date(node)
+    equal(node.peer('b')['version'], '2.0', 'the version of the first session')
+    node.ask('track t1 7 add gpc0 1')
+    older.gets_row('t1', 7, (1,))
+    older.send(REQUEST)
+    older.gets(FINISHED)
+    equal((lives(older), len(older.updates('t1'))), ({None}, 2), 'the lives of a push and of a resync, and how many updates came')
+    older.send(definition(T1_THERE) + update(T1_THERE, 1, 8, (5,)) + update(T1_THERE, 2, 9, (6,), life=20_000))
+    older.gets_ack(77, 2)
+    for key, value, least, most in ((8, 5, 590_000, 600_000), (9, 6, 10_000, 20_000)):
+        end = int(matches(r'row 1 ([0-9]+) %d %d' % (key, value), node.ask('get t1 %d' % key), 'a row that was learned')[1])
+        between(least, end - node.moment(), most, 'its life')
+    older.stands()
+    older.close()
+    wait(lambda: node.peer('b')['state'] == 'down', 2, 'the session is over')
+    equal(node.peer('b')['version'], '-', 'the version without a session')
+    newer = connected(trial, node)
+    newer.gets_row('t1', 7, (1,))
+    equal(node.peer('b')['version'], '2.1', 'the version of the second session')
+    require(None not in lives(newer), 'an update has no life:', newer.updates('t1'))
 
 
 @check

@@ -2,6 +2,8 @@
 use Rattle.std.specs.Prelude.{◌++◌, ℕ, Bool, true, false, List, [], ◌∷◌, Option, Some, None, codes, flat_map}
 use Rattle.std.specs.Fmt.{decimal}
 use Rattle.node_text.specs.Numbers.{number_or_dash}
+use Rattle.node_text.specs.Versions.{version_name}
+use Rattle.table_types.specs.declared.version.Version.{Version}
 use Rattle.admin_port.specs.TableNames.{shown_name}
 use Rattle.admin_port.specs.declared.reports.PeerState.{PeerState}
 use Rattle.admin_port.specs.declared.reports.PeerState.TheVariants as states
@@ -43,6 +45,11 @@ abbrev pub end_text : Option SessionEnd → List ℕ
 end_text None = codes "-"
 end_text (Some end) = end_name end
 
+-- the version that the session speaks, or `-` without a session
+abbrev pub version_text : Option Version → List ℕ
+version_text None = codes "-"
+version_text (Some version) = version_name version
+
 -- ---- lines
 
 -- the node's name, the moment, and whether it is up to date
@@ -57,11 +64,16 @@ counts_text p =
     ++ (codes " heartbeats_sent=" ++ (decimal p.heartbeats_sent ++ (codes " heartbeats_received=" ++ (decimal p.heartbeats_received
     ++ (codes " faults=" ++ decimal p.faults))))))))
 
+-- why the last session with a peer ended, and the version that the present one speaks
+unfoldable pub end_and_version_text : PeerReport → List ℕ
+end_and_version_text p =
+    codes " last_end=" ++ (end_text p.last_end ++ (codes " version=" ++ version_text p.version))
+
 -- the line of a peer
 unfoldable pub peer_line : PeerReport → List ℕ
 peer_line p =
     codes "peer " ++ (p.name.now ++ (codes " state=" ++ (state_name p.state ++ (codes " role=" ++ (role_text p.role
-    ++ (counts_text p ++ (codes " last_end=" ++ (end_text p.last_end ++ 10 ∷ []))))))))
+    ++ (counts_text p ++ (end_and_version_text p ++ 10 ∷ [])))))))
 
 -- the numbers of a table in a session
 unfoldable pub numbers_text : PeerTableReport → List ℕ

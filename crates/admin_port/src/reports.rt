@@ -1,13 +1,13 @@
 //! What a node reports of itself and its peers.
 ghost use Rattle.std.specs.Prelude.{◌≡◌, ◌++◌, OnOk, flat_map};
 ghost use Rattle.node_text.specs.Numbers.{number_or_dash};
-ghost use Rattle.admin_port.specs.Reports.{counts_text, end_name, end_text, node_line, numbers_text, peer_line, peer_lines, role_text, state_name, table_line, yes_or_no};
+ghost use Rattle.admin_port.specs.Reports.{counts_text, end_and_version_text, end_name, end_text, node_line, numbers_text, peer_line, peer_lines, role_text, state_name, table_line, version_text, yes_or_no};
 
 use crate::lines::{push_field, push_line_end, push_words};
 use crate::table_names::push_table_name;
 use node_text::{push_number, push_word_and_number};
 use std::alloc::AllocError;
-use table_types::{Moment, Name, TableDef};
+use table_types::{Moment, Name, TableDef, Version};
 
 /// How far the session with a peer is.
 #[derive(Clone, Copy, Debug, PartialEq, Eq)]
@@ -69,6 +69,8 @@ pub struct PeerReport<'a> {
     pub faults: u64,
     /// Why the last session ended, if one did.
     pub last_end: Option<SessionEnd>,
+    /// The version that the session speaks, if there is one.
+    pub version: Option<Version>,
     /// What the session reports of each table, if there is a session.
     pub tables: Vec<PeerTableReport<'a>>,
 }
@@ -144,7 +146,7 @@ fn push_peer(text: &mut Vec<u8>, peer: &PeerReport<'_>) -> Result<(), AllocError
     push_field(text, " state=", state_name(peer.state).as_bytes())?;
     push_field(text, " role=", role_text(peer.role).as_bytes())?;
     push_counts(text, peer)?;
-    push_field(text, " last_end=", end_text(peer.last_end).as_bytes())?;
+    push_end_and_version(text, peer)?;
     push_line_end(text)
 }
 
@@ -158,6 +160,15 @@ fn push_counts(text: &mut Vec<u8>, peer: &PeerReport<'_>) -> Result<(), AllocErr
     push_word_and_number(text, " heartbeats_sent=", peer.heartbeats_sent)?;
     push_word_and_number(text, " heartbeats_received=", peer.heartbeats_received)?;
     push_word_and_number(text, " faults=", peer.faults)
+}
+
+/// Appends why the last session with a peer ended, and the version that the present one speaks.
+#[tactic(auto, unfolding(crate::specs::Reports::end_and_version_text))]
+fn push_end_and_version(text: &mut Vec<u8>, peer: &PeerReport<'_>) -> Result<(), AllocError>
+    ensures { OnOk result (text.new.items ≡ text.old.items ++ end_and_version_text peer.now) }
+{
+    push_field(text, " last_end=", end_text(peer.last_end).as_bytes())?;
+    push_field(text, " version=", version_text(peer.version).as_bytes())
 }
 
 /// Appends the line of a table in the session with the peer `peer`.
@@ -252,6 +263,17 @@ fn end_text(end: Option<SessionEnd>) -> &'static str
 {
     match end {
         Some(end) => end.name(),
+        None => "-",
+    }
+}
+
+/// Returns the number of the version that a session speaks, or `-` if there is no session.
+fn version_text(version: Option<Version>) -> &'static str
+    ensures { result.now ≡ version_text version }
+{
+    match version {
+        Some(Version::V20) => "2.0",
+        Some(Version::V21) => "2.1",
         None => "-",
     }
 }

@@ -10,7 +10,6 @@ use crate::node::Node;
 use crate::slot::{Arrival, Slot};
 use node_text::push_number;
 use peers_hello::{Answer, Hello};
-use session_core::only_v21;
 use std::alloc::Global;
 use std::io::{Read, Write};
 use std::net::{TcpListener, TcpStream};
@@ -243,7 +242,7 @@ impl<'a, R: Wait + Clock> Door<'a, R> {
         let Ok(answer) = Hello::read(node.alloc, bytes, own, node.names.as_slice()) else {
             return Some(Found::Nothing);
         };
-        match only_v21(answer) {
+        match answer {
             Answer::Accepted(name, _, _) => Some(Found::Peer(name)),
             Answer::Refused(code, _) => {
                 let _refused = refuse(node.alloc, stream, code);

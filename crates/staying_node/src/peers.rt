@@ -5,12 +5,13 @@ use crate::node::{Node, REST};
 use crate::sessions::{Connection, Place, hold};
 use crate::slot::{Arrival, Slot};
 use admin_port::PeerRole;
-use std::io;
 use std::net::{Net, SocketAddr, TcpListener, TcpStream};
 use std::sync::Wait;
 use std::thread::Threads;
 use std::time::Clock;
+use std::{io, mem};
 use table_shards::Seat;
+use table_types::Version;
 
 /// How long an attempt to connect takes at most, in milliseconds.
 const ATTEMPT: u64 = 2_000;
@@ -57,15 +58,26 @@ fn connection_of(arrival: Arrival) -> Option<Connection> {
     Some(Connection {
         stream,
         role: PeerRole::Accept,
+        version: Version::V21,
         bytes,
     })
 }
 
+/// Returns the version that the hello of an attempt says, given whether the session of the attempt before fell back.
+fn version_after(fell_back: bool) -> Version {
+    if fell_back {
+        Version::V20
+    } else {
+        Version::V21
+    }
+}
+
 /// Returns a connection to work with, if there is one: one that waits, or one that this node makes now if `attempts`. There is none
-/// while no session may stand.
+/// while no session may stand. `fell_back` says whether the session of the last attempt fell back, and no longer does so after this one.
 fn next_connection<N: Net<Listener = TcpListener, Stream = TcpStream> + Wait>(
     place: &Place<'_, N>,
     attempts: bool,
+    fell_back: &mut bool,
 ) -> Option<Connection> {
     let node = place.node;
     if node.is_paused() {
@@ -78,20 +90,54 @@ fn next_connection<N: Net<Listener = TcpListener, Stream = TcpStream> + Wait>(
         return None;
     }
     let address = node.configuration.peers.get(place.peer)?.address?;
+    let version = version_after(mem::replace(fell_back, false));
     let Ok(stream) = connected(place.rt, &address) else {
         return None;
     };
     Some(Connection {
         stream,
         role: PeerRole::Connect,
+        version,
         bytes: Vec::new(node.alloc),
     })
+}
+
+/// Holds sessions at a peer's place, one after another, until the node stops.
+fn keep_sessions<
+    N: Net<Listener = TcpListener, Stream = TcpStream> + Threads + Wait + Clock + Sync,
+>(place: &Place<'_, N>, mut seat: Seat) {
+    let (rt, node, slot) = (place.rt, place.node, place.slot);
+    let mut attempt = 0;
+    let mut fell_back = false;
+    for _ in rt.forever() {
+        let seen = slot.bell.rings(rt);
+        if node.stops() {
+            return;
+        }
+        let now = node.clock.milliseconds(rt);
+        let attempts = now >= attempt;
+        match next_connection(place, attempts, &mut fell_back) {
+            Some(connection) => {
+                let (returned, falls_back) = hold(place, seat, connection);
+                seat = returned;
+                fell_back = falls_back || fell_back;
+                attempt = next_attempt(rt, slot, node.clock.milliseconds(rt));
+            }
+            None => {
+                if attempts {
+                    attempt = next_attempt(rt, slot, node.clock.milliseconds(rt));
+                }
+                let time = attempt.saturating_sub(now).max(1).min(REST);
+                slot.bell.wait(rt, seen, milliseconds(time));
+            }
+        }
+    }
 }
 
 /// Keeps a session with a peer for as long as the node runs, from when its threads have started.
 pub(crate) fn keep_peer<
     N: Net<Listener = TcpListener, Stream = TcpStream> + Threads + Wait + Clock + Sync,
->(rt: &N, node: &Node, peer: usize, mut seat: Seat) {
+>(rt: &N, node: &Node, peer: usize, seat: Seat) {
     let Some(slot) = node.slots.get(peer) else {
         return;
     };
@@ -104,26 +150,5 @@ pub(crate) fn keep_peer<
         slot,
         peer,
     };
-    let mut attempt = 0;
-    for _ in rt.forever() {
-        let seen = slot.bell.rings(rt);
-        if node.stops() {
-            return;
-        }
-        let now = node.clock.milliseconds(rt);
-        let attempts = now >= attempt;
-        match next_connection(&place, attempts) {
-            Some(connection) => {
-                seat = hold(&place, seat, connection);
-                attempt = next_attempt(rt, slot, node.clock.milliseconds(rt));
-            }
-            None => {
-                if attempts {
-                    attempt = next_attempt(rt, slot, node.clock.milliseconds(rt));
-                }
-                let time = attempt.saturating_sub(now).max(1).min(REST);
-                slot.bell.wait(rt, seen, milliseconds(time));
-            }
-        }
-    }
+    keep_sessions(&place, seat);
 }

@@ -542,6 +542,7 @@ impl<'a> Requester<'a> {
                 heartbeats_received: totals.heartbeats_received,
                 faults: status.faults,
                 last_end: status.last_end,
+                version: status.version,
                 tables: self.table_reports(&status)?,
             })?;
         }

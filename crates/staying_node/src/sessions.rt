@@ -38,6 +38,8 @@ pub(crate) struct Place<'a, N> {
 pub(crate) struct Connection {
     pub(crate) stream: TcpStream,
     pub(crate) role: PeerRole,
+    /// The version that the node says in its hello, if it is the end that made the connection.
+    pub(crate) version: Version,
     /// The bytes that were read from it.
     pub(crate) bytes: Vec<u8>,
 }
@@ -47,6 +49,7 @@ fn session_of(
     node: &Node,
     peer: &Name,
     role: PeerRole,
+    version: Version,
     up_to_date: bool,
 ) -> Result<Session, Memory> {
     let alloc = node.alloc;
@@ -59,7 +62,7 @@ fn session_of(
                 local: own,
                 pid: 1,
                 relative: 1,
-                version: Version::V21,
+                version,
             };
             Session::connect(alloc, hello, roster, up_to_date)
         }
@@ -72,11 +75,15 @@ fn session_of(
 }
 
 /// Makes the session of a connection, which stays from now on. Returns `None` if memory runs out.
-fn standing_of<N: Wait + Clock>(place: &Place<'_, N>, role: PeerRole) -> Option<Standing> {
+fn standing_of<N: Wait + Clock>(
+    place: &Place<'_, N>,
+    role: PeerRole,
+    version: Version,
+) -> Option<Standing> {
     let node = place.node;
     let peer = node.configuration.peers.get(place.peer)?;
     let up_to_date = node.catching_up.is_up_to_date(place.rt);
-    let session = session_of(node, &peer.name, role, up_to_date).ok()?;
+    let session = session_of(node, &peer.name, role, version, up_to_date).ok()?;
     Standing::new(node.alloc, session, node.clock.now(place.rt)).ok()
 }
 
@@ -311,8 +318,9 @@ impl<'a, N: Wait + Clock> Work<'a, N> {
         }
         self.begun = true;
         let now = self.node.clock.milliseconds(self.rt);
+        let version = self.worker.session.version();
         let mut status = self.slot.status(self.rt);
-        status.begin(now);
+        status.begin(now, version);
         drop(status);
         self.log(&[b"up", role_name(self.role).as_bytes()]);
     }
@@ -533,19 +541,22 @@ fn role_name(role: PeerRole) -> &'static str {
     }
 }
 
-/// Holds a session over a connection until it ends, and gives the seat back. While the session stands, its worker owns the seat.
+/// Holds a session over a connection until it ends. Gives the seat back, and returns whether the session fell back: whether the peer
+/// refused version 2.1, which the node's hello said. While the session stands, its worker owns the seat.
 pub(crate) fn hold<N: Threads + Wait + Clock + Sync>(
     place: &Place<'_, N>,
     mut seat: Seat,
     connection: Connection,
-) -> Seat {
+) -> (Seat, bool) {
     let node = place.node;
     let number = number_of(place.peer);
+    let mut fell_back = false;
     if reopen(place.rt, node, &mut seat, number) {
-        if let Some(session) = standing_of(place, connection.role) {
+        if let Some(session) = standing_of(place, connection.role, connection.version) {
             match StandingWorker::new(node.alloc, session, seat, number, &node.roster) {
                 Ok(worker) => {
                     let worker = hold_over(place, worker, connection);
+                    fell_back = worker.session.fell_back();
                     seat = worker.seat;
                 }
                 Err((_, refused)) => seat = refused,
@@ -553,7 +564,7 @@ pub(crate) fn hold<N: Threads + Wait + Clock + Sync>(
         }
     }
     close(place.rt, node, &mut seat, number);
-    seat
+    (seat, fell_back)
 }
 
 /// Holds a session that is open in each table over a connection, unless memory runs out. Gives its worker back.
@@ -567,6 +578,7 @@ fn hold_over<N: Threads + Wait + Clock + Sync>(
         stream,
         role,
         bytes,
+        ..
     } = connection;
     let Ok(roster) = node.roster.copy(node.alloc) else {
         return worker;

@@ -3,6 +3,7 @@
 use admin_port::{PassedOver, PeerRole, PeerState, ResyncsEnded, SessionEnd, SessionsEnded};
 use peers_engine::{TableTally, Tally};
 use std::alloc::{AllocError, Global};
+use table_types::Version;
 
 /// A minute, in milliseconds.
 const MINUTE: u64 = 60_000;
@@ -93,6 +94,8 @@ pub(crate) struct PeerStatus {
     /// Whether there is a connection.
     pub(crate) connected: bool,
     pub(crate) role: Option<PeerRole>,
+    /// The version that the session speaks, once its hello is over.
+    pub(crate) version: Option<Version>,
     /// When the session began or the last one ended, in milliseconds since the node began.
     pub(crate) since: u64,
     pub(crate) sessions: u64,
@@ -137,6 +140,7 @@ impl PeerStatus {
             state: PeerState::Down,
             connected: false,
             role: None,
+            version: None,
             since: 0,
             sessions: 0,
             faults: 0,
@@ -180,9 +184,10 @@ impl PeerStatus {
         self.present = Totals::none();
     }
 
-    /// Notes that the session's hello is over.
-    pub(crate) fn begin(&mut self, now: u64) {
+    /// Notes that the session's hello is over, and the version that the session speaks.
+    pub(crate) fn begin(&mut self, now: u64, version: Option<Version>) {
         self.since = now;
+        self.version = version;
         self.sessions = self.sessions.saturating_add(1);
         self.state = PeerState::Ready;
     }
@@ -210,6 +215,7 @@ impl PeerStatus {
         self.state = PeerState::Down;
         self.connected = false;
         self.role = None;
+        self.version = None;
         self.before = self.before.plus(self.present);
         self.present = Totals::none();
         self.tables.clear();

@@ -125,7 +125,8 @@ pub(crate) fn close<R: Wait>(rt: &R, node: &Node, seat: &mut Seat, session: u32)
     }
 }
 
-/// Closes a session in each table and opens it anew. Returns whether it is open in each.
+/// Closes a session in each table and opens it anew, with version 2.1, since its hello hasn't said another version yet. Returns whether
+/// it is open in each.
 pub(crate) fn reopen<R: Wait>(rt: &R, node: &Node, seat: &mut Seat, session: u32) -> bool {
     close(rt, node, seat, session);
     for table in node.roster.tables() {
