@@ -87,7 +87,7 @@ static SAME_NUMBER: FarSide = FarSide {
     ends: false,
 };
 
-/// A far side that says version 2.0, which a session that stays doesn't speak.
+/// A far side that says version 2.0: its updates have no life.
 static SAYS_VERSION_20: FarSide = FarSide {
     tables: EMPTY,
     steps: &[
@@ -101,10 +101,16 @@ static SAYS_VERSION_20: FarSide = FarSide {
             after: 10,
             tracks: None,
             sends: b"a 1 1\n",
-            wanted: b"502\n",
+            wanted: b"200\n",
+        },
+        Step {
+            after: 310,
+            tracks: Some(7),
+            sends: b"",
+            wanted: b"\x0A\x82\x0A\x01\x02t1\x02\x04\x04\xF0\xC4\x0D\x0A\x80\x09\x00\x00\x00\x01\x00\x00\x00\x07\x01",
         },
     ],
-    ends: true,
+    ends: false,
 };
 
 /// A far side that never acknowledges, as one does that lacks the table, and then falls silent.
