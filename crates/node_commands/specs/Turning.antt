@@ -54,7 +54,7 @@ abbrev pub turn_after : Pace → ℕ → Worker → WorkerAt
 turn_after pace before w = turn_at (moment_of pace before) w
 
 -- A turn takes the worker to another state, returns its result, and received and sent the bytes given. After an error the session
--- is over; no clause says here which tables it was given.
+-- is over. `Takes` says that the turn had some tables, not which ones.
 abbrev pub Takes : WorkerAt → Result Turned EngineError → List ℕ → List ℕ → WorkerAt → Type 0
 Takes w (Ok gave) received sent e =
     ((event : Option Event) × IsRead (received ≡ []) event received × TakesTurn (received ≡ []) w event sent e) × ((gave ≡ turned.Closed) ↔ (state_of e.session.phase ≡ states.Ended))

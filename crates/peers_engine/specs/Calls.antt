@@ -183,12 +183,12 @@ IsMissing shards table = list_any (λ c. id_of c == table) shards.cells ≡ fals
 abbrev pub IsBarred : ShardsState → ℕ → SeatState → SeatState → Type 0 → Type 0
 IsBarred shards table s t refused = (IsMissing shards table × (t ≡ s)) ⊎ refused
 
--- the table refuses to learn a row, for no want of memory or room
+-- the table `c` refuses to learn a row, though it lacks neither memory nor room
 abbrev pub RefusesLearnOn : CellState → ℕ → ℕ → SeatState → Update → SeatState → Type 0
 RefusesLearnOn c n now s u t =
     (answer : Result Reply (ShardError LearnError)) × (learn_end answer ≡ Err faults.Strange) × CallsLearnOn c n now s u answer t
 
--- the same of some cell, at the moment `at` for each
+-- some cell `c` refuses to learn it, at the moment `at c`
 abbrev pub IsUnlearned : ShardsState → (CellState → ℕ) → ℕ → SeatState → Update → SeatState → Type 0
 IsUnlearned shards at n s u t = IsBarred shards u.table s t ((c : CellState) × RefusesLearnOn c n (at c) s u t)
 

@@ -73,7 +73,7 @@ fn ack_end(table: u64, settled: Result<Settled, ShardError<AckError>>) -> Result
     }
 }
 
-/// Returns what a turn does after a test that a batch is the latest one.
+/// Returns what a turn does after the table said whether a batch is its latest one.
 fn settle_end(settled: Result<(), ShardError<StrangeBatch>>) -> Result<(), EngineError>
     ensures { result ≡ settle_end settled }
 {
@@ -83,7 +83,7 @@ fn settle_end(settled: Result<(), ShardError<StrangeBatch>>) -> Result<(), Engin
     }
 }
 
-/// Returns what a turn does after the session is closed in a table, or isn't.
+/// Returns what a turn does after a table closed the session, or refused to.
 fn close_end(closed: Result<(), ShardError<CloseError>>) -> Result<(), EngineError>
     ensures { result ≡ close_end closed }
 {
@@ -94,7 +94,7 @@ fn close_end(closed: Result<(), ShardError<CloseError>>) -> Result<(), EngineErr
     }
 }
 
-/// Returns what a turn does after the session is opened in a table, or isn't.
+/// Returns what a turn does after a table opened the session, or refused to.
 fn open_end(opened: Result<(), ShardError<OpenError>>) -> Result<(), EngineError>
     ensures { result ≡ open_end opened }
 {
