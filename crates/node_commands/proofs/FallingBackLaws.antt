@@ -2,7 +2,7 @@
 use Rattle.std.proofs.Common.{◌≡◌, ◌∙◌, ◌≤◌, ◌+◌, ◌-◌, ◌&&◌, ℕ, List, Option, Some, None, ap, subst}
 use Rattle.std.specs.Prelude.{if◌then◌else◌, nat_lt}
 use Rattle.std.specs.Io.KnownBytes.{Appends, Consumes}
-use Rattle.session_core.specs.Sessions.{SessionState}
+use Rattle.session_core.specs.Keeping.{KeptSession}
 use Rattle.peers_engine.specs.declared.worker.Worker.{Worker}
 use Rattle.text_commands.specs.declared.endings.Ending.{Ending}
 use Rattle.node_commands.specs.declared.node.Node.{Node}
@@ -27,22 +27,22 @@ unfolding IsMeeting
 meeting_of n e turns made ending meeting received sent met followed = (made, e, ending, met, followed)
 
 -- what follows, by the session that the code found
-pub followed_by : (n : Node) (e : Worker) (turns most made taken : ℕ) (ending : Ending) (next : Option SessionState) (meeting : Meeting) (from to a b : Option (List ℕ))
-    → most ≡ turns - n.pace.taken → taken ≡ n.pace.taken + made → next ≡ (if e.session.fell_back && nat_lt taken turns then n.fallback else None)
+pub followed_by : (n : Node) (e : Worker) (turns most made taken : ℕ) (ending : Ending) (next : Option KeptSession) (meeting : Meeting) (from to a b : Option (List ℕ))
+    → most ≡ turns - n.pace.taken → taken ≡ n.pace.taken + made → next ≡ (if e.session.session.fell_back && nat_lt taken turns then n.fallback else None)
     → IsPlayed n.pace n.worker most made ending e from to a b → made ≤ most → IsFollowed next n made e ending meeting → HasFollowed n turns meeting from to a b
 followed_by n e turns most made taken ending next meeting from to a b is_most is_taken is_next (received, sent, plays, consumed, appended) within followed =
-    let same : next ≡ next_session n turns made e = is_next ∙ ap (λ (k : ℕ). if e.session.fell_back && nat_lt k turns then n.fallback else None) is_taken in (
+    let same : next ≡ next_session n turns made e = is_next ∙ ap (λ (k : ℕ). if e.session.session.fell_back && nat_lt k turns then n.fallback else None) is_taken in (
       received,
       sent,
       meeting_of n e turns made ending meeting received sent
           (subst (λ (m : ℕ). Plays n.pace 0 n.worker m made ending received sent e) is_most plays, subst (λ (m : ℕ). made ≤ m) is_most within)
-          (subst (λ (s : Option SessionState). IsFollowed s n made e ending meeting) same followed),
+          (subst (λ (s : Option KeptSession). IsFollowed s n made e ending meeting) same followed),
       consumed,
       appended,
     )
 
 -- the node that connects again
-pub falls_back_to : (n again : Node) (session : SessionState) (made taken : ℕ) (e : Worker) → taken ≡ n.pace.taken + made
+pub falls_back_to : (n again : Node) (session : KeptSession) (made taken : ℕ) (e : Worker) → taken ≡ n.pace.taken + made
     → again ≡ record { tables = n.tables; worker = record { session = session; seat = e.seat; number = e.number }; pace = record { leaves = n.pace.leaves; stands = n.pace.stands; taken = taken }; fallback = None }
     → again ≡ fallen_back n session made e
 falls_back_to n again session made taken e is_taken is =
@@ -54,7 +54,7 @@ told_so n made taken e ending report is_taken audited same = (same, audited_told
 
 -- ---- both connections
 
-ends_over : (n : Node) (turns made : ℕ) (e : Worker) (ending : Ending) (report : Report) (next : Option SessionState) → IsFollowed next n made e ending (meetings.Over report)
+ends_over : (n : Node) (turns made : ℕ) (e : Worker) (ending : Ending) (report : Report) (next : Option KeptSession) → IsFollowed next n made e ending (meetings.Over report)
     → EndsSo next n turns made e ending report.ending report.text.items
 ends_over n turns made e ending report None (same, told) = (same, told)
 ends_over n turns made e ending report (Some session) followed = absurd followed
@@ -64,7 +64,7 @@ pub over_at_last : (n : Node) (turns : ℕ) (report : Report) (received sent : L
 unfolding IsMeeting
 over_at_last n turns report received sent (made, e, ending, met, followed) = (made, e, ending, received, sent, met, ends_over n turns made e ending report (next_session n turns made e) followed)
 
-ends_again : (n again : Node) (turns made : ℕ) (e : Worker) (first ending : Ending) (received sent text : List ℕ) (next : Option SessionState) → IsFollowed next n made e first (meetings.FellBack again)
+ends_again : (n again : Node) (turns made : ℕ) (e : Worker) (first ending : Ending) (received sent text : List ℕ) (next : Option KeptSession) → IsFollowed next n made e first (meetings.FellBack again)
     → IsPrinted again turns ending received sent text → EndsSo next n turns made e first ending text
 ends_again n again turns made e first ending received sent text None followed printed = absurd followed
 ends_again n again turns made e first ending received sent text (Some session) is printed = (received, sent, subst (λ (m : Node). IsPrinted m turns ending received sent text) is printed)

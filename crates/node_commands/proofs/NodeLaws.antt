@@ -6,7 +6,6 @@ use Rattle.table_types.specs.Tables.{Definition}
 use Rattle.table_types.specs.declared.version.Version.TheVariants as versions
 use Rattle.table_shards.specs.Receipts.{fresh_seat}
 use Rattle.table_shards.specs.Audits.{AuditState}
-use Rattle.session_core.specs.Sessions.{accepting, connecting}
 use Rattle.peers_engine.specs.declared.worker.Worker.{Worker}
 use Rattle.node_text.specs.declared.scenes.Scene.{Scene}
 use Rattle.text_commands.specs.Learning.{AreInRisingId}
@@ -15,14 +14,15 @@ use Rattle.node_commands.specs.declared.node.Node.{Node}
 use Rattle.node_commands.specs.declared.node.Report.{Report}
 use Rattle.node_commands.specs.Auditing.{IsAuditOf}
 use Rattle.node_commands.specs.Loading.{AreOpened}
-use Rattle.node_commands.specs.Nodes.{IsJoining, IsPrinted, IsServing, IsTold, hello_of}
+use Rattle.node_commands.specs.Nodes.{IsJoining, IsPrinted, IsServing, IsTold, joining_session}
+use Rattle.node_commands.specs.Sharing.{waiting_session}
 use Rattle.node_commands.specs.Printing.{IsText}
 use Rattle.node_commands.specs.Turning.{Plays}
 use Rattle.node_commands.proofs.TurningLaws.{IsPlayed}
 
 -- the node that serves the scene
 pub serving_with : (scene : Scene) (name peer : List ℕ) (n : Node) (roster : List Definition) → AreInRisingId scene.tables.items roster
-    → AreOpened 1 roster scene.updates.items n.tables → n.worker ≡ record { session = accepting name (peer ∷ []) roster true; seat = fresh_seat 2; number = 1 }
+    → AreOpened 1 roster scene.updates.items n.tables → n.worker ≡ record { session = waiting_session name peer roster; seat = fresh_seat 2; number = 1 }
     → n.pace ≡ record { leaves = false; stands = false; taken = 0 } → n.fallback ≡ None → IsServing scene name peer n
 unfolding IsServing
 serving_with scene name peer n roster rising opened worker pace alone = (roster, rising, opened, worker, pace, alone)
@@ -30,8 +30,8 @@ serving_with scene name peer n roster rising opened worker pace alone = (roster,
 -- the node that joins with the scene's tables
 pub joining_with : (scene : Scene) (name peer : List ℕ) (n : Node) (roster : List Definition) → AreInRisingId scene.tables.items roster
     → AreOpened 1 roster [] n.tables
-    → n.worker ≡ record { session = connecting (hello_of name peer versions.V21) roster false; seat = fresh_seat 2; number = 1 }
-    → n.pace ≡ record { leaves = true; stands = false; taken = 0 } → n.fallback ≡ Some (connecting (hello_of name peer versions.V20) roster false) → IsJoining scene name peer n
+    → n.worker ≡ record { session = joining_session name peer versions.V21 roster; seat = fresh_seat 2; number = 1 }
+    → n.pace ≡ record { leaves = true; stands = false; taken = 0 } → n.fallback ≡ Some (joining_session name peer versions.V20 roster) → IsJoining scene name peer n
 unfolding IsJoining
 joining_with scene name peer n roster rising opened worker pace next = (roster, rising, opened, worker, pace, next)
 

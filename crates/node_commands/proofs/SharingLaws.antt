@@ -4,7 +4,7 @@ use Rattle.table_types.specs.Tables.{Definition}
 use Rattle.table_shards.specs.Receipts.{SeatState}
 use Rattle.table_shards.specs.Rounds.{fresh_from}
 use Rattle.table_shards.proofs.RoundLaws.{map_append}
-use Rattle.session_core.specs.Sessions.{SessionState, accepting}
+use Rattle.session_core.specs.Keeping.{KeptSession}
 use Rattle.peers_engine.specs.declared.worker.Worker.{Worker}
 use Rattle.node_text.specs.declared.scenes.Scene.{Scene}
 use Rattle.text_commands.specs.Learning.{AreInRisingId}
@@ -14,21 +14,21 @@ use Rattle.node_commands.specs.declared.node.sharing.Served.{Served}
 use Rattle.node_commands.specs.declared.node.sharing.TakesTurns.{TakesTurns}
 use Rattle.node_commands.specs.Loading.{AreOpened}
 use Rattle.node_commands.specs.Serving.{HasServed}
-use Rattle.node_commands.specs.Sharing.{AllServed, AreKept, AreStarted, IsServer, IsShared, IsTotal, worker_at}
+use Rattle.node_commands.specs.Sharing.{AllServed, AreKept, AreStarted, IsServer, IsShared, IsTotal, waiting_session, worker_at}
 
 -- ---- the node
 
-pub one_worker : (s : SessionState) (ws : List Worker) (w : Worker) (seat : SeatState) (taken : List SeatState) → ws ≡ map (worker_at s) taken → w ≡ worker_at s seat
+pub one_worker : (s : KeptSession) (ws : List Worker) (w : Worker) (seat : SeatState) (taken : List SeatState) → ws ≡ map (worker_at s) taken → w ≡ worker_at s seat
     → ws ++ w ∷ [] ≡ map (worker_at s) (taken ++ seat ∷ [])
 one_worker s ws w seat taken so is =
     ap (λ (xs : List Worker). xs ++ w ∷ []) so ∙ ap (λ (x : Worker). map (worker_at s) taken ++ x ∷ []) is ∙ sym (map_append (worker_at s) taken (seat ∷ []))
 
 pub server_with : (scene : Scene) (name peer : List ℕ) (sessions : ℕ) (n : Server) (roster : List Definition) (seats : List SeatState) → AreInRisingId scene.tables.items roster
-    → AreOpened sessions roster scene.updates.items n.tables → n.workers.items ≡ map (worker_at (accepting name (peer ∷ []) roster true)) seats → seats ≡ fresh_from 2 sessions
+    → AreOpened sessions roster scene.updates.items n.tables → n.workers.items ≡ map (worker_at (waiting_session name peer roster)) seats → seats ≡ fresh_from 2 sessions
     → IsServer scene name peer sessions n
 unfolding IsServer
 server_with scene name peer sessions n roster seats rising opened workers fresh =
-    (roster, rising, opened, workers ∙ ap (map (worker_at (accepting name (peer ∷ []) roster true))) fresh)
+    (roster, rising, opened, workers ∙ ap (map (worker_at (waiting_session name peer roster))) fresh)
 
 -- ---- threads
 

@@ -1,5 +1,5 @@
 -- One track after another.
-use Rattle.std.proofs.Common.{◌≡◌, ◌∙◌, ◌+◌, ◌<◌, ◌≤◌, ℕ, List, [], ◌∷◌, ◌++◌, Ok, Result, true, arith, inl, inr, length, refl, sym, ap, subst, append-nil, append_assoc, length-append}
+use Rattle.std.proofs.Common.{◌≡◌, ◌∙◌, ◌+◌, ◌<◌, ◌≤◌, ℕ, List, [], ◌∷◌, ◌++◌, Ok, Result, true, false, arith, inl, inr, length, refl, sym, ap, subst, append-nil, append_assoc, length-append}
 use Rattle.std.specs.List.{AllByRecursion}
 use Rattle.table_types.specs.declared.change.Change.TheVariants as changes
 use Rattle.table_types.specs.declared.copies.CopyKind.{CopyKind}
@@ -103,10 +103,10 @@ held_worked call event reply c e s t r a work is holds =
 pub answered : (s e : SeatState) (a : Answered) → e ≡ with_answer s a → GainsWork s e
 answered s e a is = subst (GainsWork s) (sym is) (refl, [], sym (append-nil (receipts_of 1 s)), tt)
 
-pub copied_worked : (now : ℕ) (s t : SeatState) (kind : CopyKind) (event : Event) → IsCopied 1 now s 1 kind t event → GainsWork s t
-copied_worked now s t kind event (c, inl (batch, same, (sound, e, (mid, (may, calls, receipt), left)))) =
-    subst (GainsWork s) (sym (left ∙ receipt)) (one_worked s c (events.Copy 1 kind 512 now) (replies.Copy batch) refl)
-copied_worked now s t kind event (c, inr (same, (sound, e, (mid, (may, calls, stays), left)))) = subst (λ (x : SeatState). GainsWork x t) stays (answered mid t _ left)
+pub copied_worked : (now : ℕ) (s t : SeatState) (kind : CopyKind) (event : Event) → IsCopied false 1 now s 1 kind t event → GainsWork s t
+copied_worked now s t kind event (c, at, is, inl (batch, same, (sound, e, (mid, (may, calls, receipt), left)))) =
+    subst (GainsWork s) (sym (left ∙ receipt)) (one_worked s c (events.Copy 1 kind 512 at) (replies.Copy batch) refl)
+copied_worked now s t kind event (c, at, is, inr (same, (sound, e, (mid, (may, calls, stays), left)))) = subst (λ (x : SeatState). GainsWork x t) stays (answered mid t _ left)
 
 pub taken_worked : (s t : SeatState) (number : ℕ) (event : Event) → IsTaken 1 s 1 number t event → GainsWork s t
 taken_worked s t number event (inl (settled, same, (c, sound, e, (mid, (may, calls, receipt), left)))) =

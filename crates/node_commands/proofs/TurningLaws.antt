@@ -11,8 +11,8 @@ use Rattle.table_shards.specs.Receipts.{SeatState}
 use Rattle.table_shards.specs.Rounds.{ShardsState}
 use Rattle.session_core.specs.Sessions.{SessionState, state_of}
 use Rattle.peers_engine.specs.declared.errors.EngineError.{EngineError}
-use Rattle.peers_engine.specs.declared.turned.Turned.{Turned}
-use Rattle.peers_engine.specs.declared.turned.Turned.TheVariants as turned
+use Rattle.peers_engine.specs.declared.outcome.Outcome.{Outcome}
+use Rattle.peers_engine.specs.declared.outcome.Outcome.TheVariants as outcomes
 use Rattle.peers_engine.specs.declared.worker.Worker.{Worker}
 use Rattle.peers_engine.specs.Acting.{Worker as WorkerAt, worker}
 use Rattle.peers_engine.specs.Reading.{IsRead}
@@ -35,8 +35,8 @@ begins pace w turns made ending more out e plays =
     subst (λ (m : ℕ). Plays pace 0 w turns m ending more out e) (sym none) (subst (λ (n : ℕ). Plays pace 0 w n made ending more out e) left plays)
 
 -- a turn after which the session goes on
-goes_first : (pace : Pace) (before : ℕ) (w mid e : Worker) (left made : ℕ) (gave : Result Turned EngineError) (ending : Ending) (first out more others : List ℕ)
-    → Takes (turn_after pace before w) gave first out (turn_after pace before mid) → ending_after pace.leaves mid.session gave ≡ None → Plays pace (before + 1) mid left made ending more others e
+goes_first : (pace : Pace) (before : ℕ) (w mid e : Worker) (left made : ℕ) (gave : Result Outcome EngineError) (ending : Ending) (first out more others : List ℕ)
+    → Takes (turn_after pace before w) gave first out (turn_after pace before mid) → ending_after pace.leaves mid.session.session gave ≡ None → Plays pace (before + 1) mid left made ending more others e
     → Plays pace before w (suc left) (made + 1) ending (first ++ more) (out ++ others) e
 goes_first pace before w mid e left made gave ending first out more others takes none plays = (
   gave,
@@ -53,8 +53,8 @@ goes_first pace before w mid e left made gave ending first out more others takes
 )
 
 -- the turn after which the session ends
-ends_first : (pace : Pace) (before : ℕ) (w mid : Worker) (left : ℕ) (gave : Result Turned EngineError) (ending : Ending) (first out : List ℕ)
-    → Takes (turn_after pace before w) gave first out (turn_after pace before mid) → ending_after pace.leaves mid.session gave ≡ Some ending → Plays pace before w (suc left) 1 ending first out mid
+ends_first : (pace : Pace) (before : ℕ) (w mid : Worker) (left : ℕ) (gave : Result Outcome EngineError) (ending : Ending) (first out : List ℕ)
+    → Takes (turn_after pace before w) gave first out (turn_after pace before mid) → ending_after pace.leaves mid.session.session gave ≡ Some ending → Plays pace before w (suc left) 1 ending first out mid
 ends_first pace before w mid left gave ending first out takes some = (
   gave,
   mid,
@@ -69,8 +69,8 @@ ends_first pace before w mid left gave ending first out takes some = (
       (refl, refl, (refl, refl, refl)),
 )
 
-pub one_more : (pace : Pace) (start w mid : Worker) (turns before : ℕ) (gave : Result Turned EngineError) (received sent first out : List ℕ) → before < turns
-    → SoFar pace start turns before received sent w → Takes (turn_after pace before w) gave first out (turn_after pace before mid) → ending_after pace.leaves mid.session gave ≡ None
+pub one_more : (pace : Pace) (start w mid : Worker) (turns before : ℕ) (gave : Result Outcome EngineError) (received sent first out : List ℕ) → before < turns
+    → SoFar pace start turns before received sent w → Takes (turn_after pace before w) gave first out (turn_after pace before mid) → ending_after pace.leaves mid.session.session gave ≡ None
     → SoFar pace start turns (before + 1) (received ++ first) (sent ++ out) mid
 one_more pace start w mid turns before gave received sent first out room so_far takes none made ending more others e plays =
     let left : turns - before ≡ suc (turns - (before + 1)) = omega arith in
@@ -81,8 +81,8 @@ one_more pace start w mid turns before gave received sent first out room so_far 
     (subst (λ (r : List ℕ). Plays pace 0 start turns (before + (made + 1)) ending r ((sent ++ out) ++ others) e) (sym (append_assoc received first more))
     (subst (λ (o : List ℕ). Plays pace 0 start turns (before + (made + 1)) ending (received ++ (first ++ more)) o e) (sym (append_assoc sent out others)) there))
 
-pub stops : (pace : Pace) (start w mid : Worker) (turns before : ℕ) (gave : Result Turned EngineError) (ending : Ending) (received sent first out : List ℕ) → before < turns
-    → SoFar pace start turns before received sent w → Takes (turn_after pace before w) gave first out (turn_after pace before mid) → ending_after pace.leaves mid.session gave ≡ Some ending
+pub stops : (pace : Pace) (start w mid : Worker) (turns before : ℕ) (gave : Result Outcome EngineError) (ending : Ending) (received sent first out : List ℕ) → before < turns
+    → SoFar pace start turns before received sent w → Takes (turn_after pace before w) gave first out (turn_after pace before mid) → ending_after pace.leaves mid.session.session gave ≡ Some ending
     → Plays pace 0 start turns (before + 1) ending (received ++ first) (sent ++ out) mid
 stops pace start w mid turns before gave ending received sent first out room so_far takes some =
     let left : turns - before ≡ suc (turns - (before + 1)) = omega arith in
@@ -108,7 +108,7 @@ HasPlayed pace start turns before w from to a b =
     (received sent : List ℕ) × SoFar pace start turns before received sent w × Consumes from to received × Appends a b sent
 
 -- one turn, with the same
-abbrev pub HasTaken : WorkerAt → Result Turned EngineError → WorkerAt → Option (List ℕ) → Option (List ℕ) → Option (List ℕ) → Option (List ℕ) → Type 0
+abbrev pub HasTaken : WorkerAt → Result Outcome EngineError → WorkerAt → Option (List ℕ) → Option (List ℕ) → Option (List ℕ) → Option (List ℕ) → Type 0
 HasTaken w gave e from to a b = (received sent : List ℕ) × Takes w gave received sent e × Consumes from to received × Appends a b sent
 
 -- all turns of the session, with the same
@@ -119,8 +119,8 @@ IsPlayed pace start turns made ending e from to a b =
 pub begins_there : (pace : Pace) (w : Worker) (turns : ℕ) (from a : Option (List ℕ)) → HasPlayed pace w turns 0 w from from a a
 begins_there pace w turns from a = ([], [], begins pace w turns, Consumes-nil from, Appends-nil a)
 
-pub one_more_there : (pace : Pace) (start w mid : Worker) (turns before : ℕ) (gave : Result Turned EngineError) (from then to a b d : Option (List ℕ)) → before < turns
-    → HasPlayed pace start turns before w from then a b → HasTaken (turn_after pace before w) gave (turn_after pace before mid) then to b d → ending_after pace.leaves mid.session gave ≡ None
+pub one_more_there : (pace : Pace) (start w mid : Worker) (turns before : ℕ) (gave : Result Outcome EngineError) (from then to a b d : Option (List ℕ)) → before < turns
+    → HasPlayed pace start turns before w from then a b → HasTaken (turn_after pace before w) gave (turn_after pace before mid) then to b d → ending_after pace.leaves mid.session.session gave ≡ None
     → HasPlayed pace start turns (before + 1) mid from to a d
 one_more_there pace start w mid turns before gave from then to a b d room (received, sent, so_far, consumed, appended) (first, out, takes, more, further) none = (
   received ++ first,
@@ -130,8 +130,8 @@ one_more_there pace start w mid turns before gave from then to a b d room (recei
   Appends-trans a b d sent out appended further,
 )
 
-pub stops_there : (pace : Pace) (start w mid : Worker) (turns before : ℕ) (gave : Result Turned EngineError) (ending : Ending) (from then to a b d : Option (List ℕ)) → before < turns
-    → HasPlayed pace start turns before w from then a b → HasTaken (turn_after pace before w) gave (turn_after pace before mid) then to b d → ending_after pace.leaves mid.session gave ≡ Some ending
+pub stops_there : (pace : Pace) (start w mid : Worker) (turns before : ℕ) (gave : Result Outcome EngineError) (ending : Ending) (from then to a b d : Option (List ℕ)) → before < turns
+    → HasPlayed pace start turns before w from then a b → HasTaken (turn_after pace before w) gave (turn_after pace before mid) then to b d → ending_after pace.leaves mid.session.session gave ≡ Some ending
     → IsPlayed pace start turns (before + 1) ending mid from to a d
 stops_there pace start w mid turns before gave ending from then to a b d room (received, sent, so_far, consumed, appended) (first, out, takes, more, further) some = (
   received ++ first,
@@ -173,31 +173,31 @@ still_stops : (shards : ShardsState) {untouched : Type 0} (w : WorkerAt) (e : Se
 still_stops shards w e seat event error received sent reads (inl (still, none, halts)) = inl (subst (λ (x : Option Event). IsRead (received ≡ []) x received) none reads, none, halts)
 still_stops shards w e seat event error received sent reads (inr more) = inr more
 
-ok_way : {untouched : Type 0} (at_end : Type 0) (w e : WorkerAt) (gave : Turned) (from to a b : Option (List ℕ))
+ok_way : {untouched : Type 0} (at_end : Type 0) (w e : WorkerAt) (gave : Outcome) (from to a b : Option (List ℕ))
     → (event : Option Event) × (received sent : List ℕ) × IsRead at_end event received × TakesTurn untouched w event sent e × Consumes from to received × Appends a b sent
-    → ((gave ≡ turned.Closed) ↔ (state_of e.session.phase ≡ states.Ended)) → HasTaken w (Ok gave) e from to a b
+    → ((gave ≡ outcomes.Closed) ↔ (state_of e.session.session.phase ≡ states.Ended)) → HasTaken w (Ok gave) e from to a b
 ok_way at_end w e gave from to a b (event, received, sent, given, takes, consumed, appended) closed =
     let reads = still_read at_end event received given in
     (received, sent, ((event, reads, still_takes w e event received sent reads takes), closed), consumed, appended)
 
 err_way : (shards : ShardsState) {untouched : Type 0} (at_end : Type 0) (w e : WorkerAt) (error : EngineError) (from to a b : Option (List ℕ))
-    → (event : Option Event) × (received sent : List ℕ) × IsRead at_end event received × StopsTurn shards untouched w event error sent e.session e.seat × Consumes from to received × Appends a b sent
-    → state_of e.session.phase ≡ states.Ended → HasTaken w (Err error) e from to a b
+    → (event : Option Event) × (received sent : List ℕ) × IsRead at_end event received × StopsTurn shards untouched w event error sent e.session.session e.seat × Consumes from to received × Appends a b sent
+    → state_of e.session.session.phase ≡ states.Ended → HasTaken w (Err error) e from to a b
 err_way shards at_end w e error from to a b (event, received, sent, given, stops, consumed, appended) over =
     let reads = still_read at_end event received given in
-    (received, sent, ((event, shards, reads, still_stops shards w e.session e.seat event error received sent reads stops), over), consumed, appended)
+    (received, sent, ((event, shards, reads, still_stops shards w e.session.session e.seat event error received sent reads stops), over), consumed, appended)
 
 -- a turn, from the contract for its success and the one for its error
-pub both_ways : (shards : ShardsState) (at_end untouched : Type 0) (w e : WorkerAt) (gave : Result Turned EngineError) (from to a b : Option (List ℕ))
+pub both_ways : (shards : ShardsState) (at_end untouched : Type 0) (w e : WorkerAt) (gave : Result Outcome EngineError) (from to a b : Option (List ℕ))
     → OnOk gave ((event : Option Event) × (received sent : List ℕ) × IsRead at_end event received × TakesTurn untouched w event sent e × Consumes from to received × Appends a b sent)
-    → IfOk gave (λ t. (t ≡ turned.Closed) ↔ (state_of e.session.phase ≡ states.Ended))
-    → IfErr gave (λ error. (event : Option Event) × (received sent : List ℕ) × IsRead at_end event received × StopsTurn shards untouched w event error sent e.session e.seat × Consumes from to received × Appends a b sent)
-    → OnErr gave (state_of e.session.phase ≡ states.Ended) → HasTaken w gave e from to a b
+    → IfOk gave (λ t. (t ≡ outcomes.Closed) ↔ (state_of e.session.session.phase ≡ states.Ended))
+    → IfErr gave (λ error. (event : Option Event) × (received sent : List ℕ) × IsRead at_end event received × StopsTurn shards untouched w event error sent e.session.session e.seat × Consumes from to received × Appends a b sent)
+    → OnErr gave (state_of e.session.session.phase ≡ states.Ended) → HasTaken w gave e from to a b
 both_ways shards at_end untouched w e (Ok gave) from to a b written closed stopped over = ok_way at_end w e gave from to a b written closed
 both_ways shards at_end untouched w e (Err error) from to a b written closed stopped over = err_way shards at_end w e error from to a b stopped over
 
 -- a turn at the moment that belongs to it is the turn after `before` others
-pub taken_after : (pace : Pace) (before now : ℕ) (w e : Worker) (gave : Result Turned EngineError) (from to a b : Option (List ℕ)) → now ≡ moment_of pace before
+pub taken_after : (pace : Pace) (before now : ℕ) (w e : Worker) (gave : Result Outcome EngineError) (from to a b : Option (List ℕ)) → now ≡ moment_of pace before
     → HasTaken (worker w.session w.seat w.number now) gave (worker e.session e.seat e.number now) from to a b → HasTaken (turn_after pace before w) gave (turn_after pace before e) from to a b
 taken_after pace before now w e gave from to a b is taken =
     subst (λ (n : ℕ). HasTaken (worker w.session w.seat w.number n) gave (worker e.session e.seat e.number n) from to a b) is taken

@@ -7,7 +7,8 @@ use Rattle.table_types.specs.declared.version.Version.TheVariants as versions
 use Rattle.table_shards.specs.Receipts.{fresh_seat}
 use Rattle.table_shards.specs.Audits.{AuditState}
 use Rattle.peers_hello.specs.declared.hello.Hello.{Hello}
-use Rattle.session_core.specs.Sessions.{accepting, connecting}
+use Rattle.session_core.specs.Keeping.{KeptSession, plain}
+use Rattle.session_core.specs.Sessions.{connecting}
 use Rattle.peers_engine.specs.declared.worker.Worker.{Worker}
 use Rattle.node_text.specs.declared.scenes.Scene.{Scene}
 use Rattle.text_commands.specs.Learning.{AreInRisingId}
@@ -19,7 +20,7 @@ use Rattle.node_commands.specs.declared.node.server.Server.{Server}
 use Rattle.node_commands.specs.Auditing.{IsAuditOf}
 use Rattle.node_commands.specs.Loading.{AreOpened}
 use Rattle.node_commands.specs.Printing.{IsText}
-use Rattle.node_commands.specs.Sharing.{IsServer, IsShared}
+use Rattle.node_commands.specs.Sharing.{IsServer, IsShared, waiting_session}
 use Rattle.node_commands.specs.Turning.{Plays}
 
 -- A node that waits for the peer to connect. It has the scene's tables in ascending order of their ids, loaded with the scene's
@@ -29,13 +30,17 @@ IsServing scene name peer n =
     (roster : List Definition)
     × AreInRisingId scene.tables.items roster
     × AreOpened 1 roster scene.updates.items n.tables
-    × (n.worker ≡ record { session = accepting name (peer ∷ []) roster true; seat = fresh_seat 2; number = 1 })
+    × (n.worker ≡ record { session = waiting_session name peer roster; seat = fresh_seat 2; number = 1 })
     × (n.pace ≡ record { leaves = false; stands = false; taken = 0 })
     × (n.fallback ≡ None)
 
 -- the hello of the node `name` to the peer
 abbrev pub hello_of : List ℕ → List ℕ → Version → Hello
 hello_of name peer version = record { remote = peer; local = name; pid = 1; relative = 1; version = version }
+
+-- the session of that node, which says this version: it is plain, and isn't up to date
+unfoldable pub joining_session : List ℕ → List ℕ → Version → List Definition → KeptSession
+joining_session name peer version roster = plain (connecting (hello_of name peer version) roster false)
 
 -- A node that connects to the peer. It has the scene's tables in ascending order of their ids, without rows. Its session has number
 -- 1 in them and the second seat, isn't up to date, and leaves once it has sent `resync confirmed`. It says version 2.1 in its hello;
@@ -45,9 +50,9 @@ IsJoining scene name peer n =
     (roster : List Definition)
     × AreInRisingId scene.tables.items roster
     × AreOpened 1 roster [] n.tables
-    × (n.worker ≡ record { session = connecting (hello_of name peer versions.V21) roster false; seat = fresh_seat 2; number = 1 })
+    × (n.worker ≡ record { session = joining_session name peer versions.V21 roster; seat = fresh_seat 2; number = 1 })
     × (n.pace ≡ record { leaves = true; stands = false; taken = 0 })
-    × (n.fallback ≡ Some (connecting (hello_of name peer versions.V20) roster false))
+    × (n.fallback ≡ Some (joining_session name peer versions.V20 roster))
 
 -- Over a connection, a node's session made `made` turns, received and sent the bytes given, and left the worker as `e`. It made at most
 -- `turns` turns, together with those of an earlier session.

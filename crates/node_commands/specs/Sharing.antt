@@ -4,7 +4,8 @@ use Rattle.table_types.specs.Tables.{Definition}
 use Rattle.table_shards.specs.Receipts.{SeatState}
 use Rattle.table_shards.specs.Rounds.{fresh_from}
 use Rattle.table_shards.specs.Audits.{AuditState}
-use Rattle.session_core.specs.Sessions.{SessionState, accepting}
+use Rattle.session_core.specs.Keeping.{KeptSession, plain}
+use Rattle.session_core.specs.Sessions.{accepting}
 use Rattle.peers_engine.specs.declared.worker.Worker.{Worker}
 use Rattle.node_text.specs.declared.scenes.Scene.{Scene}
 use Rattle.text_commands.specs.Learning.{AreInRisingId}
@@ -19,8 +20,12 @@ use Rattle.node_commands.specs.Loading.{AreOpened}
 use Rattle.node_commands.specs.Printing.{IsSharedText}
 use Rattle.node_commands.specs.Serving.{HasServed}
 
+-- the session of a node that waits for the peer to connect: it is plain, and up to date
+unfoldable pub waiting_session : List ℕ → List ℕ → List Definition → KeptSession
+waiting_session name peer roster = plain (accepting name (peer ∷ []) roster true)
+
 -- the worker of a session at a seat; its number is the one before the seat's
-abbrev pub worker_at : SessionState → SeatState → Worker
+abbrev pub worker_at : KeptSession → SeatState → Worker
 worker_at s seat = record { session = s; seat = seat; number = seat.number - 1 }
 
 -- A node that waits for the peer to connect, as often as it has sessions. It has the scene's tables in ascending order of their ids,
@@ -30,7 +35,7 @@ IsServer scene name peer sessions n =
     (roster : List Definition)
     × AreInRisingId scene.tables.items roster
     × AreOpened sessions roster scene.updates.items n.tables
-    × (n.workers.items ≡ map (worker_at (accepting name (peer ∷ []) roster true)) (fresh_from 2 sessions))
+    × (n.workers.items ≡ map (worker_at (waiting_session name peer roster)) (fresh_from 2 sessions))
 
 -- ---- sessions that run side by side
 

@@ -9,8 +9,8 @@ use Rattle.session_core.specs.Sessions.{SessionState, state_of}
 use Rattle.table_shards.specs.Rounds.{ShardsState}
 use Rattle.peers_engine.specs.declared.errors.EngineError.{EngineError}
 use Rattle.peers_engine.specs.declared.errors.EngineError.TheVariants as errors
-use Rattle.peers_engine.specs.declared.turned.Turned.{Turned}
-use Rattle.peers_engine.specs.declared.turned.Turned.TheVariants as turned
+use Rattle.peers_engine.specs.declared.outcome.Outcome.{Outcome}
+use Rattle.peers_engine.specs.declared.outcome.Outcome.TheVariants as outcomes
 use Rattle.peers_engine.specs.declared.worker.Worker.{Worker}
 use Rattle.peers_engine.specs.Acting.{Worker as WorkerAt, worker}
 use Rattle.peers_engine.specs.Reading.{IsRead}
@@ -36,9 +36,9 @@ broken_by fault errors.Memory = endings.Memory
 broken_by fault errors.Strange = endings.Strange
 
 -- how it ends after a turn, if it does: one that leaves ends once it has sent `resync confirmed`
-abbrev pub ending_after : Bool → SessionState → Result Turned EngineError → Option Ending
-ending_after leaves s (Ok turned.Going) = if leaves && s.confirmed then Some endings.Done else None
-ending_after leaves s (Ok turned.Closed) = Some (closed_by s.fault)
+abbrev pub ending_after : Bool → SessionState → Result Outcome EngineError → Option Ending
+ending_after leaves s (Ok outcomes.Closed) = Some (closed_by s.fault)
+ending_after leaves s (Ok outcome) = if leaves && s.confirmed then Some endings.Done else None
 ending_after leaves s (Err error) = Some (broken_by s.fault error)
 
 -- The moment of the turn that follows `before` others, and those of an earlier session: each comes a millisecond after the one
@@ -55,12 +55,12 @@ turn_after pace before w = turn_at (moment_of pace before) w
 
 -- A turn takes the worker to another state, returns its result, and received and sent the bytes given. After an error the session
 -- is over. `Takes` says that the turn had some tables, not which ones.
-abbrev pub Takes : WorkerAt → Result Turned EngineError → List ℕ → List ℕ → WorkerAt → Type 0
+abbrev pub Takes : WorkerAt → Result Outcome EngineError → List ℕ → List ℕ → WorkerAt → Type 0
 Takes w (Ok gave) received sent e =
-    ((event : Option Event) × IsRead (received ≡ []) event received × TakesTurn (received ≡ []) w event sent e) × ((gave ≡ turned.Closed) ↔ (state_of e.session.phase ≡ states.Ended))
+    ((event : Option Event) × IsRead (received ≡ []) event received × TakesTurn (received ≡ []) w event sent e) × ((gave ≡ outcomes.Closed) ↔ (state_of e.session.session.phase ≡ states.Ended))
 Takes w (Err error) received sent e =
-    ((event : Option Event) × (shards : ShardsState) × IsRead (received ≡ []) event received × StopsTurn shards (received ≡ []) w event error sent e.session e.seat)
-    × (state_of e.session.phase ≡ states.Ended)
+    ((event : Option Event) × (shards : ShardsState) × IsRead (received ≡ []) event received × StopsTurn shards (received ≡ []) w event error sent e.session.session e.seat)
+    × (state_of e.session.session.phase ≡ states.Ended)
 
 -- nothing more is received or sent, and the worker stays as it is
 abbrev pub Rests : Worker → List ℕ → List ℕ → Worker → Type 0
@@ -77,11 +77,11 @@ GoesOn (Some by) made ending rests on = (made ≡ 1) × (ending ≡ by) × rests
 abbrev pub Plays : Pace → ℕ → Worker → ℕ → ℕ → Ending → List ℕ → List ℕ → Worker → Type 0
 Plays pace before w zero made ending received sent e = (made ≡ 0) × (ending ≡ endings.Done) × Rests w received sent e
 Plays pace before w (suc left) made ending received sent e =
-    (gave : Result Turned EngineError)
+    (gave : Result Outcome EngineError)
     × (mid : Worker)
     × (first out later_received later_sent : List ℕ)
     × Takes (turn_after pace before w) gave first out (turn_after pace before mid)
     × (received ≡ first ++ later_received)
     × (sent ≡ out ++ later_sent)
-    × GoesOn (ending_after pace.leaves mid.session gave) made ending (Rests mid later_received later_sent e)
+    × GoesOn (ending_after pace.leaves mid.session.session gave) made ending (Rests mid later_received later_sent e)
     ((later : ℕ) × (made ≡ later + 1) × Plays pace (before + 1) mid left later ending later_received later_sent e)

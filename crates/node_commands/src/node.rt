@@ -14,14 +14,14 @@ ghost use Rattle.node_text.specs.declared.scenes.Scene.{Scene};
 ghost use Rattle.text_commands.specs.Endings.{IsEarly, line_of};
 ghost use Rattle.table_types.specs.declared.version.Version.TheVariants as versions;
 ghost use Rattle.text_commands.specs.declared.endings.Ending.TheVariants as endings;
-ghost use Rattle.session_core.specs.Sessions.{connecting};
 ghost use Rattle.table_shards.specs.Audits.{AuditState};
 ghost use Rattle.node_commands.specs.Auditing.{IsAuditOf};
-ghost use Rattle.node_commands.specs.Nodes.{AppendsSome, IsJoining, IsPrinted, IsServing, has_rows, hello_of, is_told};
+ghost use Rattle.node_commands.specs.Nodes.{AppendsSome, IsJoining, IsPrinted, IsServing, has_rows, is_told, joining_session};
 ghost use Rattle.node_commands.specs.Printing.{IsText};
 
 use crate::node::auditing::audited;
 use crate::node::loading::{NodeTables, SESSION, opened};
+use crate::node::server::waiting;
 use crate::node::sharing::Served;
 use crate::node::turns::{Pace, Turns, play};
 use crate::printing::session_text;
@@ -75,11 +75,11 @@ pub(crate) fn scene_of<I: Read + Faults>(alloc: Global, input: &mut I) -> Result
 fn serving_of<H: Wait>(
     rt: &H,
     alloc: Global,
-    name: Name,
-    peer: Name,
+    name: &Name,
+    peer: &Name,
     scene: Scene,
 ) -> Result<Node, Ending>
-    ensures node { IfOk result (λ node. IsServing scene name peer node) }
+    ensures node { IfOk result (λ node. IsServing scene name.now peer.now node) }
     ensures early { IfErr result IsEarly }
 {
     let Scene {
@@ -90,9 +90,7 @@ fn serving_of<H: Wait>(
     let roster = rising_roster(definitions)?;
     let shared = roster.copy(alloc)?;
     let (tables, mut seats) = opened(rt, alloc, roster, updates.as_slice(), 1)?;
-    let mut peers = Vec::new(alloc);
-    peers.push(peer).map_err(Memory::from)?;
-    let session = Session::accept(alloc, name, peers, shared, true)?;
+    let session = waiting(alloc, name, peer, shared)?;
     let worker = Worker {
         session,
         seat: seats.remove(0),
@@ -111,6 +109,7 @@ fn serving_of<H: Wait>(
 }
 
 /// Makes a session of a node that joins, which says this version. It isn't up to date.
+#[tactic(auto, unfolding(crate::specs::Nodes::joining_session))]
 fn joining_session(
     alloc: Global,
     name: &Name,
@@ -118,7 +117,7 @@ fn joining_session(
     roster: &Roster,
     version: Version,
 ) -> Result<Session, Memory>
-    ensures { IfOk result (λ session. session ≡ connecting (hello_of name.now peer.now version) roster.now false) }
+    ensures { IfOk result (λ session. session ≡ joining_session name.now peer.now version roster.now) }
 {
     let hello = Hello {
         remote: peer.copy(alloc)?,
@@ -137,7 +136,7 @@ fn joining_sessions(
     peer: &Name,
     roster: &Roster,
 ) -> Result<(Session, Session), Memory>
-    ensures { IfOk result (λ sessions. (sessions.0 ≡ connecting (hello_of name.now peer.now versions.V21) roster.now false) × (sessions.1 ≡ connecting (hello_of name.now peer.now versions.V20) roster.now false)) }
+    ensures { IfOk result (λ sessions. (sessions.0 ≡ joining_session name.now peer.now versions.V21 roster.now) × (sessions.1 ≡ joining_session name.now peer.now versions.V20 roster.now)) }
 {
     let session = joining_session(alloc, name, peer, roster, Version::V21)?;
     let fallback = joining_session(alloc, name, peer, roster, Version::V20)?;
@@ -228,6 +227,13 @@ fn text_of(
     Ok(text)
 }
 
+/// Returns the seat from which a worker called the tables.
+fn seat_of(worker: Worker) -> Seat
+    ensures { result ≡ worker.seat }
+{
+    worker.seat
+}
+
 /// Makes the report of the last session, which is over: the number of turns that the node took, and the rows that the tables now have,
 /// once they are audited with the session's seat. Fails with the session's ending if no rows are printed after it, with `Device` if the
 /// audit finds a fault, and with `Memory` if memory runs out.
@@ -242,12 +248,13 @@ fn report_of(
     ensures early { IfErr result (λ ending. (ending ≡ endings.Memory) ⊎ (ending ≡ endings.Device)) }
 {
     let Served { worker, played } = served;
+    let seat = seat_of(worker);
     let ending = played.ending;
     if !has_rows(ending) {
         return Err(early(ending));
     }
     let mut seats = Vec::with_capacity(alloc, 1)?;
-    seats.push(worker.seat).map_err(Memory::from)?;
+    seats.push(seat).map_err(Memory::from)?;
     let text = text_of(alloc, tables, seats, turns)?;
     let line = ending.line(alloc)?;
     Ok(Report { text, ending, line })
@@ -268,7 +275,7 @@ impl Node {
         ensures early { IfErr result IsEarly }
     {
         let scene = scene_of(alloc, input)?;
-        let node = serving_of(rt, alloc, name, peer, scene)?;
+        let node = serving_of(rt, alloc, &name, &peer, scene)?;
         Ok(node)
     }
 

@@ -1,5 +1,5 @@
 -- The answers of the calls that perform an action.
-use Rattle.std.proofs.Common.{◌≡◌, ℕ, List, [], Option, Some, None, Result, Ok, Err, IfErr, refl, sym, ap, subst, inl, inr}
+use Rattle.std.proofs.Common.{◌≡◌, ℕ, Bool, List, [], Option, Some, None, Result, Ok, Err, IfErr, refl, sym, ap, subst, inl, inr}
 use Rattle.std.proofs.KnownBytes.{Appends-nil}
 use Rattle.std.specs.Prelude.{◌<◌, OnErr, length, take}
 use Rattle.std.specs.Io.KnownBytes.{Appends}
@@ -9,7 +9,6 @@ use Rattle.table_types.specs.declared.version.Version.{Version}
 use Rattle.peers_msg.specs.declared.control.ErrorKind.{ErrorKind}
 use Rattle.table_shards.specs.Receipts.{SeatState}
 use Rattle.table_shards.specs.Rounds.{ShardsState}
-use Rattle.table_cell.specs.Histories.{CellState}
 use Rattle.known_state.specs.Known.{KnownState}
 use Rattle.session_core.specs.declared.action.Action.{Action}
 use Rattle.session_core.specs.declared.action.Action.TheVariants as actions
@@ -18,56 +17,55 @@ use Rattle.session_core.specs.declared.event.Event.TheVariants as events
 use Rattle.session_core.specs.Sessions.{SessionState}
 use Rattle.peers_engine.specs.declared.errors.EngineError.{EngineError}
 use Rattle.peers_engine.specs.declared.errors.EngineError.TheVariants as errors
-use Rattle.peers_engine.specs.Calls.{IsCopied, IsLearned, IsReopened, IsSettled, IsTaken, opened_with}
+use Rattle.peers_engine.specs.Calls.{IsCopied, IsLearned, IsReopened, IsSettled, IsTaken, moment_at, opened_with}
 use Rattle.teach_writer.specs.Lessons.{IsShortestLesson}
 use Rattle.peers_engine.specs.Doing.{Done, Fails, Falls, IsAtTable, IsLeft, IsRefusal, IsStrange, error_text}
 use Rattle.peers_engine.proofs.TurnLaws.{OneDone, OneFails}
 
 -- a write failed
-pub falls_short : (shards : ShardsState) (moments : CellState → ℕ) (error : EngineError) (n now : ℕ) (x : SessionState) (s t : SeatState) (act : Action) (bytes : List ℕ) (answer : Option Event) (old new : Option (List ℕ))
-    → Done n now x s act bytes answer t → Falls bytes error old new → (out : List ℕ) × Fails shards moments n now x s act error out t × Appends old new out
-falls_short shards moments (errors.Write sent) n now x s t act bytes answer old new done (within, appended) = (take sent bytes, (bytes, answer, done, within, refl), appended)
-falls_short shards moments errors.Read n now x s t act bytes answer old new done falls = absurd falls
-falls_short shards moments errors.Memory n now x s t act bytes answer old new done falls = absurd falls
-falls_short shards moments errors.Strange n now x s t act bytes answer old new done falls = absurd falls
-falls_short shards moments (errors.Session refused) n now x s t act bytes answer old new done falls = absurd falls
+pub falls_short : (shards : ShardsState) (stays : Bool) (error : EngineError) (n now : ℕ) (x : SessionState) (s t : SeatState) (act : Action) (bytes : List ℕ) (answer : Option Event) (old new : Option (List ℕ))
+    → Done stays n now x s act bytes answer t → Falls bytes error old new → (out : List ℕ) × Fails shards stays n now x s act error out t × Appends old new out
+falls_short shards stays (errors.Write sent) n now x s t act bytes answer old new done (within, appended) = (take sent bytes, (bytes, answer, done, within, refl), appended)
+falls_short shards stays errors.Read n now x s t act bytes answer old new done falls = absurd falls
+falls_short shards stays errors.Memory n now x s t act bytes answer old new done falls = absurd falls
+falls_short shards stays errors.Strange n now x s t act bytes answer old new done falls = absurd falls
+falls_short shards stays (errors.Session refused) n now x s t act bytes answer old new done falls = absurd falls
 
 -- ---- actions with an answer
 
-taken_as : (n now : ℕ) (x : SessionState) (s t : SeatState) (table number : ℕ) (event : Event) → IsTaken n s table number t event
-    → Done n now x s (actions.Ack table number) [] (Some event) t
-taken_as n now x s t table number event (inl (settled, is, call)) = (refl, inl (settled, ap (λ (y : Event). Some y) is, call))
-taken_as n now x s t table number event (inr (is, call)) = (refl, inr (ap (λ (y : Event). Some y) is, call))
+taken_as : (stays : Bool) (n now : ℕ) (x : SessionState) (s t : SeatState) (table number : ℕ) (event : Event) → IsTaken n s table number t event
+    → Done stays n now x s (actions.Ack table number) [] (Some event) t
+taken_as stays n now x s t table number event (inl (settled, is, call)) = (refl, inl (settled, ap (λ (y : Event). Some y) is, call))
+taken_as stays n now x s t table number event (inr (is, call)) = (refl, inr (ap (λ (y : Event). Some y) is, call))
 
-copied_as : (n now : ℕ) (x : SessionState) (s t : SeatState) (table : ℕ) (kind : CopyKind) (event : Event) → IsCopied n now s table kind t event
-    → Done n now x s (actions.Copy table kind) [] (Some event) t
-copied_as n now x s t table kind event (c, inl (batch, is, call)) = (refl, inl (batch, ap (λ (y : Event). Some y) is, (c, call)))
-copied_as n now x s t table kind event (c, inr (is, call)) = (refl, inr (ap (λ (y : Event). Some y) is, (c, call)))
+copied_as : (stays : Bool) (n now : ℕ) (x : SessionState) (s t : SeatState) (table : ℕ) (kind : CopyKind) (event : Event) → IsCopied stays n now s table kind t event
+    → Done stays n now x s (actions.Copy table kind) [] (Some event) t
+copied_as stays n now x s t table kind event copied = (refl, event, refl, copied)
 
 -- an acknowledgement
-pub ack_done : (n now : ℕ) (x : SessionState) (s t : SeatState) (action : Action) (table number : ℕ) (known : Option (List ℕ)) (event : Event)
-    → action ≡ actions.Ack table number → IsTaken n s table number t event → OneDone n now x s t action known known (Some event)
-ack_done n now x s t action table number known event is taken =
-    ([], subst (λ (a : Action). Done n now x s a [] (Some event) t) (sym is) (taken_as n now x s t table number event taken), Appends-nil known)
+pub ack_done : (stays : Bool) (n now : ℕ) (x : SessionState) (s t : SeatState) (action : Action) (table number : ℕ) (known : Option (List ℕ)) (event : Event)
+    → action ≡ actions.Ack table number → IsTaken n s table number t event → OneDone stays n now x s t action known known (Some event)
+ack_done stays n now x s t action table number known event is taken =
+    ([], subst (λ (a : Action). Done stays n now x s a [] (Some event) t) (sym is) (taken_as stays n now x s t table number event taken), Appends-nil known)
 
 -- a copy
-pub copy_done : (n now : ℕ) (x : SessionState) (s t : SeatState) (action : Action) (table : ℕ) (kind : CopyKind) (known : Option (List ℕ)) (event : Event)
-    → action ≡ actions.Copy table kind → IsCopied n now s table kind t event → OneDone n now x s t action known known (Some event)
-copy_done n now x s t action table kind known event is copied =
-    ([], subst (λ (a : Action). Done n now x s a [] (Some event) t) (sym is) (copied_as n now x s t table kind event copied), Appends-nil known)
+pub copy_done : (stays : Bool) (n now : ℕ) (x : SessionState) (s t : SeatState) (action : Action) (table : ℕ) (kind : CopyKind) (known : Option (List ℕ)) (event : Event)
+    → action ≡ actions.Copy table kind → IsCopied stays n now s table kind t event → OneDone stays n now x s t action known known (Some event)
+copy_done stays n now x s t action table kind known event is copied =
+    ([], subst (λ (a : Action). Done stays n now x s a [] (Some event) t) (sym is) (copied_as stays n now x s t table kind event copied), Appends-nil known)
 
 -- a lesson from the same known state
 pub lesson_from : (k known : KnownState) (batch : List Update) (out : List ℕ) (after : KnownState) → k ≡ known → IsShortestLesson k batch out after → IsShortestLesson known batch out after
 lesson_from k known batch out after same lesson = subst (λ (y : KnownState). IsShortestLesson y batch out after) same lesson
 
 -- a lesson
-pub teach_done : (n now : ℕ) (k : KnownState) (x : SessionState) (s t : SeatState) (action : Action) (batch : List Update) (old new : Option (List ℕ)) (event : Event)
+pub teach_done : (stays : Bool) (n now : ℕ) (k : KnownState) (x : SessionState) (s t : SeatState) (action : Action) (batch : List Update) (old new : Option (List ℕ)) (event : Event)
     → action ≡ actions.Teach batch → k ≡ x.known
     → ((out : List ℕ) × (after : KnownState) × IsShortestLesson k batch out after × (event ≡ events.Written after) × IsSettled n s batch t × Appends old new out)
-    → OneDone n now x s t action old new (Some event)
-teach_done n now k x s t action batch old new event is same (out, after, lesson, written, settled, appended) = (
+    → OneDone stays n now x s t action old new (Some event)
+teach_done stays n now k x s t action batch old new event is same (out, after, lesson, written, settled, appended) = (
   out,
-  subst (λ (a : Action). Done n now x s a out (Some event) t) (sym is)
+  subst (λ (a : Action). Done stays n now x s a out (Some event) t) (sym is)
       (after, lesson_from k x.known batch out after same lesson, ap (λ (y : Event). Some y) written, settled),
   appended,
 )
@@ -75,74 +73,74 @@ teach_done n now k x s t action batch old new event is same (out, after, lesson,
 -- ---- actions without one
 
 -- bytes that are written
-pub send_done : (n now : ℕ) (x : SessionState) (s : SeatState) (action : Action) (bytes out : List ℕ) (old new : Option (List ℕ))
-    → action ≡ actions.Send bytes → out ≡ bytes → Appends old new out → OneDone n now x s s action old new None
-send_done n now x s action bytes out old new is same appended =
-    (out, subst (λ (a : Action). Done n now x s a out None s) (sym is) (same, refl, refl), appended)
+pub send_done : (stays : Bool) (n now : ℕ) (x : SessionState) (s : SeatState) (action : Action) (bytes out : List ℕ) (old new : Option (List ℕ))
+    → action ≡ actions.Send bytes → out ≡ bytes → Appends old new out → OneDone stays n now x s s action old new None
+send_done stays n now x s action bytes out old new is same appended =
+    (out, subst (λ (a : Action). Done stays n now x s a out None s) (sym is) (same, refl, refl), appended)
 
 -- a row that is learned
-pub learn_done : (n now : ℕ) (x : SessionState) (s t : SeatState) (action : Action) (u : Update) (known : Option (List ℕ))
-    → action ≡ actions.Learn u → IsLearned n now s u t → OneDone n now x s t action known known None
-learn_done n now x s t action u known is learned =
-    ([], subst (λ (a : Action). Done n now x s a [] None t) (sym is) (refl, refl, learned), Appends-nil known)
+pub learn_done : (stays : Bool) (n now : ℕ) (x : SessionState) (s t : SeatState) (action : Action) (u : Update) (known : Option (List ℕ))
+    → action ≡ actions.Learn u → IsLearned stays n now s u t → OneDone stays n now x s t action known known None
+learn_done stays n now x s t action u known is learned =
+    ([], subst (λ (a : Action). Done stays n now x s a [] None t) (sym is) (refl, refl, learned), Appends-nil known)
 
 -- a table that is reopened
-pub reopen_done : (n now : ℕ) (x : SessionState) (s t : SeatState) (action : Action) (table : ℕ) (version : Version) (known : Option (List ℕ))
-    → action ≡ actions.Reopen table → version ≡ opened_with x.version → IsReopened n version s table t → OneDone n now x s t action known known None
-reopen_done n now x s t action table version known is same reopened =
-    ([], subst (λ (a : Action). Done n now x s a [] None t) (sym is) (refl, refl, subst (λ (v : Version). IsReopened n v s table t) same reopened), Appends-nil known)
+pub reopen_done : (stays : Bool) (n now : ℕ) (x : SessionState) (s t : SeatState) (action : Action) (table : ℕ) (version : Version) (known : Option (List ℕ))
+    → action ≡ actions.Reopen table → version ≡ opened_with x.version → IsReopened n version s table t → OneDone stays n now x s t action known known None
+reopen_done stays n now x s t action table version known is same reopened =
+    ([], subst (λ (a : Action). Done stays n now x s a [] None t) (sym is) (refl, refl, subst (λ (v : Version). IsReopened n v s table t) same reopened), Appends-nil known)
 
 -- an error message that is written
-pub part_done : (n now : ℕ) (x : SessionState) (s : SeatState) (action : Action) (kind : ErrorKind) (old new : Option (List ℕ))
-    → action ≡ actions.Part kind → Appends old new (error_text kind) → OneDone n now x s s action old new None
-part_done n now x s action kind old new is appended =
-    (error_text kind, subst (λ (a : Action). Done n now x s a (error_text kind) None s) (sym is) (refl, refl, refl), appended)
+pub part_done : (stays : Bool) (n now : ℕ) (x : SessionState) (s : SeatState) (action : Action) (kind : ErrorKind) (old new : Option (List ℕ))
+    → action ≡ actions.Part kind → Appends old new (error_text kind) → OneDone stays n now x s s action old new None
+part_done stays n now x s action kind old new is appended =
+    (error_text kind, subst (λ (a : Action). Done stays n now x s a (error_text kind) None s) (sym is) (refl, refl, refl), appended)
 
 -- a connection that is closed
-pub close_done : (n now : ℕ) (x : SessionState) (s : SeatState) (action : Action) (known : Option (List ℕ)) → action ≡ actions.Close → OneDone n now x s s action known known None
-close_done n now x s action known is = ([], subst (λ (a : Action). Done n now x s a [] None s) (sym is) (refl, refl, refl), Appends-nil known)
+pub close_done : (stays : Bool) (n now : ℕ) (x : SessionState) (s : SeatState) (action : Action) (known : Option (List ℕ)) → action ≡ actions.Close → OneDone stays n now x s s action known known None
+close_done stays n now x s action known is = ([], subst (λ (a : Action). Done stays n now x s a [] None s) (sym is) (refl, refl, refl), Appends-nil known)
 
 -- ---- failures
 
 -- bytes, and an error message, that weren't written whole
-pub send_falls : (shards : ShardsState) (moments : CellState → ℕ) (n now : ℕ) (x : SessionState) (s : SeatState) (action : Action) (bytes out : List ℕ) (error : EngineError) (old new : Option (List ℕ))
-    → action ≡ actions.Send bytes → out ≡ bytes → Falls out error old new → OneFails shards moments n now x s s action old new error
-send_falls shards moments n now x s action bytes out error old new is same falls =
-    subst (λ (a : Action). OneFails shards moments n now x s s a old new error) (sym is)
-    (falls_short shards moments error n now x s s (actions.Send bytes) out None old new (same, refl, refl) falls)
+pub send_falls : (shards : ShardsState) (stays : Bool) (n now : ℕ) (x : SessionState) (s : SeatState) (action : Action) (bytes out : List ℕ) (error : EngineError) (old new : Option (List ℕ))
+    → action ≡ actions.Send bytes → out ≡ bytes → Falls out error old new → OneFails shards stays n now x s s action old new error
+send_falls shards stays n now x s action bytes out error old new is same falls =
+    subst (λ (a : Action). OneFails shards stays n now x s s a old new error) (sym is)
+    (falls_short shards stays error n now x s s (actions.Send bytes) out None old new (same, refl, refl) falls)
 
-pub part_falls : (shards : ShardsState) (moments : CellState → ℕ) (n now : ℕ) (x : SessionState) (s : SeatState) (action : Action) (kind : ErrorKind) (error : EngineError) (old new : Option (List ℕ))
-    → action ≡ actions.Part kind → Falls (error_text kind) error old new → OneFails shards moments n now x s s action old new error
-part_falls shards moments n now x s action kind error old new is falls =
-    subst (λ (a : Action). OneFails shards moments n now x s s a old new error) (sym is)
-    (falls_short shards moments error n now x s s (actions.Part kind) (error_text kind) None old new (refl, refl, refl) falls)
+pub part_falls : (shards : ShardsState) (stays : Bool) (n now : ℕ) (x : SessionState) (s : SeatState) (action : Action) (kind : ErrorKind) (error : EngineError) (old new : Option (List ℕ))
+    → action ≡ actions.Part kind → Falls (error_text kind) error old new → OneFails shards stays n now x s s action old new error
+part_falls shards stays n now x s action kind error old new is falls =
+    subst (λ (a : Action). OneFails shards stays n now x s s a old new error) (sym is)
+    (falls_short shards stays error n now x s s (actions.Part kind) (error_text kind) None old new (refl, refl, refl) falls)
 
 -- a table refused the action, or memory ran out
-pub refused_as : (shards : ShardsState) (moments : CellState → ℕ) (error : EngineError) (n now : ℕ) (x : SessionState) (s t : SeatState) (act : Action) (known : Option (List ℕ))
-    → IsRefusal (IsStrange shards moments n x s act t) error → IsAtTable act → IsLeft n s act t → (out : List ℕ) × Fails shards moments n now x s act error out t × Appends known known out
-refused_as shards moments errors.Memory n now x s t act known refused at left = ([], inl (refused, at, refl, left), Appends-nil known)
-refused_as shards moments errors.Strange n now x s t act known refused at left = ([], (refused, at, refl, left), Appends-nil known)
-refused_as shards moments errors.Read n now x s t act known refused at left = absurd refused
-refused_as shards moments (errors.Write sent) n now x s t act known refused at left = absurd refused
-refused_as shards moments (errors.Session why) n now x s t act known refused at left = absurd refused
+pub refused_as : (shards : ShardsState) (stays : Bool) (error : EngineError) (n now : ℕ) (x : SessionState) (s t : SeatState) (act : Action) (known : Option (List ℕ))
+    → IsRefusal (IsStrange shards (moment_at stays now) n x s act t) error → IsAtTable act → IsLeft n s act t → (out : List ℕ) × Fails shards stays n now x s act error out t × Appends known known out
+refused_as shards stays errors.Memory n now x s t act known refused at left = ([], inl (refused, at, refl, left), Appends-nil known)
+refused_as shards stays errors.Strange n now x s t act known refused at left = ([], (refused, at, refl, left), Appends-nil known)
+refused_as shards stays errors.Read n now x s t act known refused at left = absurd refused
+refused_as shards stays (errors.Write sent) n now x s t act known refused at left = absurd refused
+refused_as shards stays (errors.Session why) n now x s t act known refused at left = absurd refused
 
-pub call_refused : (shards : ShardsState) (moments : CellState → ℕ) (n now : ℕ) (x : SessionState) (s t : SeatState) (action act : Action) (known : Option (List ℕ)) (error : EngineError)
-    → action ≡ act → IsAtTable act → IsRefusal (IsStrange shards moments n x s act t) error → IsLeft n s act t → OneFails shards moments n now x s t action known known error
-call_refused shards moments n now x s t action act known error is at refused left =
-    subst (λ (a : Action). OneFails shards moments n now x s t a known known error) (sym is) (refused_as shards moments error n now x s t act known refused at left)
+pub call_refused : (shards : ShardsState) (stays : Bool) (n now : ℕ) (x : SessionState) (s t : SeatState) (action act : Action) (known : Option (List ℕ)) (error : EngineError)
+    → action ≡ act → IsAtTable act → IsRefusal (IsStrange shards (moment_at stays now) n x s act t) error → IsLeft n s act t → OneFails shards stays n now x s t action known known error
+call_refused shards stays n now x s t action act known error is at refused left =
+    subst (λ (a : Action). OneFails shards stays n now x s t a known known error) (sym is) (refused_as shards stays error n now x s t act known refused at left)
 
 -- a lesson for whose next bytes memory ran out
-pub lesson_cut : (shards : ShardsState) (moments : CellState → ℕ) (n now : ℕ) (x : SessionState) (s t : SeatState) (batch : List Update) (bytes : List ℕ) (answer : Option Event) (sent : ℕ) (old new : Option (List ℕ))
-    → Done n now x s (actions.Teach batch) bytes answer t → sent < length bytes → Appends old new (take sent bytes) → OneFails shards moments n now x s t (actions.Teach batch) old new errors.Memory
-lesson_cut shards moments n now x s t batch bytes answer sent old new done within appended =
+pub lesson_cut : (shards : ShardsState) (stays : Bool) (n now : ℕ) (x : SessionState) (s t : SeatState) (batch : List Update) (bytes : List ℕ) (answer : Option Event) (sent : ℕ) (old new : Option (List ℕ))
+    → Done stays n now x s (actions.Teach batch) bytes answer t → sent < length bytes → Appends old new (take sent bytes) → OneFails shards stays n now x s t (actions.Teach batch) old new errors.Memory
+lesson_cut shards stays n now x s t batch bytes answer sent old new done within appended =
     (take sent bytes, inr (tt, sent, (bytes, answer, done, within, refl)), appended)
 
 -- a lesson that can't be made or written
-pub teach_fails : (shards : ShardsState) (moments : CellState → ℕ) (n now : ℕ) (x : SessionState) (s t : SeatState) (action : Action) (batch : List Update) (old new : Option (List ℕ)) (error : EngineError)
-    → action ≡ actions.Teach batch → OneFails shards moments n now x s t (actions.Teach batch) old new error → OneFails shards moments n now x s t action old new error
-teach_fails shards moments n now x s t action batch old new error is fails = subst (λ (a : Action). OneFails shards moments n now x s t a old new error) (sym is) fails
+pub teach_fails : (shards : ShardsState) (stays : Bool) (n now : ℕ) (x : SessionState) (s t : SeatState) (action : Action) (batch : List Update) (old new : Option (List ℕ)) (error : EngineError)
+    → action ≡ actions.Teach batch → OneFails shards stays n now x s t (actions.Teach batch) old new error → OneFails shards stays n now x s t action old new error
+teach_fails shards stays n now x s t action batch old new error is fails = subst (λ (a : Action). OneFails shards stays n now x s t a old new error) (sym is) fails
 
-pub table_refuses : (shards : ShardsState) (moments : CellState → ℕ) {X : Type 0} (n now : ℕ) (x : SessionState) (s t : SeatState) (action act : Action) (known : Option (List ℕ)) (result : Result X EngineError)
-    → action ≡ act → IsAtTable act → IfErr result (IsRefusal (IsStrange shards moments n x s act t)) → OnErr result (IsLeft n s act t) → IfErr result (λ error. OneFails shards moments n now x s t action known known error)
-table_refuses shards moments {X} n now x s t action act known (Ok done) is at refused left = tt
-table_refuses shards moments {X} n now x s t action act known (Err error) is at refused left = call_refused shards moments n now x s t action act known error is at refused left
+pub table_refuses : (shards : ShardsState) (stays : Bool) {X : Type 0} (n now : ℕ) (x : SessionState) (s t : SeatState) (action act : Action) (known : Option (List ℕ)) (result : Result X EngineError)
+    → action ≡ act → IsAtTable act → IfErr result (IsRefusal (IsStrange shards (moment_at stays now) n x s act t)) → OnErr result (IsLeft n s act t) → IfErr result (λ error. OneFails shards stays n now x s t action known known error)
+table_refuses shards stays {X} n now x s t action act known (Ok done) is at refused left = tt
+table_refuses shards stays {X} n now x s t action act known (Err error) is at refused left = call_refused shards stays n now x s t action act known error is at refused left

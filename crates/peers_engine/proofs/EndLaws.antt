@@ -10,6 +10,9 @@ use Rattle.session_core.specs.Phases.{Phase}
 use Rattle.session_core.specs.Phases as phases
 use Rattle.session_core.specs.Sessions.{SessionState, Goes, GoesIn, ended}
 use Rattle.session_core.specs.Standing.{StandingState, Stands}
+use Rattle.session_core.specs.Manners.{Manner}
+use Rattle.session_core.specs.Manners as manners
+use Rattle.session_core.specs.Keeping.{KeptSession, StepsAs, standing}
 
 -- the events after which every session is over
 abbrev pub closes : Event → Bool
@@ -57,8 +60,23 @@ closed_in phases.Ended s event acts e is goes = absurd goes
 pub closed : (s : SessionState) (event : Event) (acts : List Action) (e : SessionState) → closes event ≡ true → Goes s event acts e → e ≡ ended s
 closed s event acts e is goes = closed_in s.phase s event acts e is goes
 
-pub stands_closed : (s e : StandingState) (now : ℕ) (acts : List Action) → Stands s now events.End acts e → e.session ≡ ended s.session
-stands_closed s e now acts (goes, pace) = closed s.session events.End acts e.session refl goes
+stands_closed : (s e : StandingState) (now : ℕ) (event : Event) (acts : List Action) → closes event ≡ true → Stands s now event acts e → e.session ≡ ended s.session
+stands_closed s e now events.End acts is (goes, pace) = closed s.session events.End acts e.session refl goes
+stands_closed s e now events.ReadFault acts is (goes, pace) = closed s.session events.ReadFault acts e.session refl goes
+stands_closed s e now events.WriteFault acts is (goes, pace) = closed s.session events.WriteFault acts e.session refl goes
+stands_closed s e now events.Opened acts is stood = absurd (false≢true is)
+stands_closed s e now events.Turn acts is stood = absurd (false≢true is)
+stands_closed s e now (events.Bytes bytes) acts is stood = absurd (false≢true is)
+stands_closed s e now (events.Copied table batch) acts is stood = absurd (false≢true is)
+stands_closed s e now (events.Nothing table) acts is stood = absurd (false≢true is)
+stands_closed s e now (events.Written known) acts is stood = absurd (false≢true is)
+stands_closed s e now (events.Settled table settled) acts is stood = absurd (false≢true is)
+stands_closed s e now (events.Refused table) acts is stood = absurd (false≢true is)
+
+-- every session is over after them, however it is kept
+pub steps_closed : (manner : Manner) (s e : KeptSession) (now : ℕ) (event : Event) (acts : List Action) → closes event ≡ true → StepsAs manner s now event acts e → e.session ≡ ended s.session
+steps_closed manners.Plain s e now event acts is (goes, same) = closed s.session event acts e.session is goes
+steps_closed (manners.Staying p) s e now event acts is (q, stood, same) = stands_closed (standing s.session p) (standing e.session q) now event acts is stood
 
 -- a call that keeps the known bytes consumes none
 pub nothing_consumed : (old new : Option (List ℕ)) → Keeps old new → Consumes old new []

@@ -7,10 +7,7 @@ mod HaltLaws
 mod MomentLaws
 mod OneActionLaws
 mod PiecesLaws
-mod RefusalLaws
 mod RunLaws
-mod StayCalmLaws
-mod StayLaws
 mod TakenLaws
+mod TickLaws
 mod TurnLaws
-mod UntilLaws

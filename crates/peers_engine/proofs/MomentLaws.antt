@@ -1,5 +1,5 @@
 -- A call at a table's latest moment, or at a later one, isn't refused for its moment.
-use Rattle.std.proofs.Common.{◌≡◌, ◌<◌, ℕ, max, Bool, false, nat_lt, cond, Option, Some, None, Err, refl, sym, ap, ◌∙◌, arith, ltb-true, inl, inr}
+use Rattle.std.proofs.Common.{◌≡◌, ◌<◌, ℕ, max, Bool, true, false, nat_lt, cond, Option, Some, None, Err, refl, sym, ap, ◌∙◌, arith, ltb-true, inl, inr}
 use Rattle.std.specs.Prelude.{if◌then◌else◌, ◌==◌, length}
 use Rattle.std.proofs.lemmas.Bool.{cases_Bool, cond-true, cond-false}
 use Rattle.table_types.specs.declared.update.Update.{Update}
@@ -13,7 +13,7 @@ use Rattle.table_cell.specs.Histories.{CellState, is_history_full}
 use Rattle.table_cell.specs.Machine.{TableState, copy_refusal, is_out, learn_refusal, progress_of, unacked}
 use Rattle.table_shards.specs.declared.errors.ShardError.TheVariants as errors
 use Rattle.table_shards.specs.Receipts.{SeatState}
-use Rattle.peers_engine.specs.Calls.{CallsCopyOn, CallsLearnOn, late, most_copied}
+use Rattle.peers_engine.specs.Calls.{CallsCopyOn, CallsLearnOn, moment_at, most_copied}
 
 not_before : (now latest : ℕ) → nat_lt (max now latest) latest ≡ false
 not_before now latest = elim (cases_Bool (nat_lt (max now latest) latest)) [
@@ -72,10 +72,10 @@ copy_not_back full s session kind limit now later refused = by (progress_of sess
         (λ (e : ◌≡◌ {A = Option CopyError} None (Some uncopied.MomentBack)). no_error uncopied.MomentBack e))))
         (sym (ap of_session at) ∙ refused)
 
-pub learn_never_back : (c : CellState) (n now : ℕ) (s t : SeatState) (u : Update) → CallsLearnOn c n (late now c) s u (Err (errors.Cell unlearned.MomentBack)) t → ⊥
+pub learn_never_back : (c : CellState) (n now : ℕ) (s t : SeatState) (u : Update) → CallsLearnOn c n (moment_at true now c) s u (Err (errors.Cell unlearned.MomentBack)) t → ⊥
 learn_never_back c n now s t u (sound, e, (mid, (may, (refused, same), stays), left)) =
-    learn_not_back (is_history_full c) c.state n u (late now c) (not_before now c.state.latest) refused
+    learn_not_back (is_history_full c) c.state n u (moment_at true now c) (not_before now c.state.latest) refused
 
-pub copy_never_back : (c : CellState) (n now : ℕ) (s t : SeatState) (table : ℕ) (kind : CopyKind) → CallsCopyOn c n (late now c) s table kind (Err (errors.Cell uncopied.MomentBack)) t → ⊥
+pub copy_never_back : (c : CellState) (n now : ℕ) (s t : SeatState) (table : ℕ) (kind : CopyKind) → CallsCopyOn c n (moment_at true now c) s table kind (Err (errors.Cell uncopied.MomentBack)) t → ⊥
 copy_never_back c n now s t table kind (sound, e, (mid, (may, (refused, same), stays), left)) =
-    copy_not_back (is_history_full c) c.state n kind most_copied (late now c) (not_before now c.state.latest) refused
+    copy_not_back (is_history_full c) c.state n kind most_copied (moment_at true now c) (not_before now c.state.latest) refused

@@ -10,12 +10,13 @@ use Rattle.table_shards.specs.Rounds.{ShardsState}
 use Rattle.session_core.specs.declared.action.Action.{Action}
 use Rattle.session_core.specs.declared.event.Event.{Event}
 use Rattle.session_core.specs.declared.state.State.TheVariants as states
+use Rattle.session_core.specs.Keeping.{KeptSession}
 use Rattle.session_core.specs.Sessions.{SessionState, state_of}
 use Rattle.peers_engine.specs.declared.errors.EngineError.{EngineError}
 use Rattle.peers_engine.specs.Acting.{Acts, DoesNotGoOn, IsGiven, Stops, Worker, asked, stands}
 use Rattle.peers_engine.proofs.ActLaws.{acts_on, one_act}
 use Rattle.peers_engine.proofs.HaltLaws.{cut_more, lost_later}
-use Rattle.peers_engine.proofs.TurnLaws.{AreDone, AreStopped, OneDone, OneFails, give_fails, next_fails}
+use Rattle.peers_engine.proofs.TurnLaws.{AreDone, AreStopped, OneDoneBy, OneFailsBy, give_fails, next_fails}
 
 -- an action is performed, its answer, if it has one, is received, what that asks for is kept, and the bytes are written
 abbrev pub IsOne : Worker → Action → List Action → List Action → Worker → Option (List ℕ) → Option (List ℕ) → Type 0
@@ -26,34 +27,34 @@ IsOne w act given more e old new =
 
 -- it has no answer
 pub silently_done : (w : Worker) (seat : SeatState) (act : Action) (given : List Action) (old new : Option (List ℕ))
-    → OneDone w.number w.now w.session w.seat seat act old new None → IsOne w act given given (stands w w.session seat) old new
+    → OneDoneBy w seat act old new None → IsOne w act given given (stands w w.session seat) old new
 silently_done w seat act given old new (out, done, appended) =
     ([], out, one_act w w.session seat act None [] out done (refl, refl), sym (append-nil given), appended)
 
 -- its answer is received
-pub answered : (w : Worker) (e : SessionState) (seat : SeatState) (act : Action) (answer : Event) (given more : List Action) (old new : Option (List ℕ))
-    → OneDone w.number w.now w.session w.seat seat act old new (Some answer)
-    → ((steps : List (Event × List Action)) × IsGiven w.session (Some answer) steps e × (more ≡ given ++ asked steps))
+pub answered : (w : Worker) (e : KeptSession) (seat : SeatState) (act : Action) (answer : Event) (given more : List Action) (old new : Option (List ℕ))
+    → OneDoneBy w seat act old new (Some answer)
+    → ((steps : List (Event × List Action)) × IsGiven w.session w.now (Some answer) steps e × (more ≡ given ++ asked steps))
     → IsOne w act given more (stands w e seat) old new
 answered w e seat act answer given more old new (out, done, appended) (steps, gives, kept) =
     (steps, out, one_act w e seat act (Some answer) steps out done gives, kept, appended)
 
-nothing_done : (w : Worker) (old : Option (List ℕ)) → AreDone w [] [] w old old
-nothing_done w old = ([], [], (refl, refl, refl), refl, Appends-nil old)
+none_yet : (w : Worker) (old : Option (List ℕ)) → AreDone w [] [] w old old
+none_yet w old = ([], [], (refl, refl, refl), refl, Appends-nil old)
 
 -- it fails
 pub fails_alone : (shards : ShardsState) (w : Worker) (seat : SeatState) (act : Action) (error : EngineError) (old new : Option (List ℕ))
-    → OneFails shards (λ c. w.now) w.number w.now w.session w.seat seat act old new error → AreStopped shards w (act ∷ []) error w.session seat old new
+    → OneFailsBy shards w seat act old new error → AreStopped shards w (act ∷ []) error w.session.session seat old new
 fails_alone shards w seat act error old new fails =
-    next_fails shards w w seat w.session (act ∷ []) [] [] [] act error old old new refl refl (nothing_done w old) fails
+    next_fails shards w w seat (act ∷ []) [] [] [] act error old old new refl (none_yet w old) fails
 
 -- the session doesn't go on after its answer
-pub unanswered : (shards : ShardsState) (w : Worker) (e : SessionState) (seat : SeatState) (act : Action) (answer : Event) (error : EngineError) (old new : Option (List ℕ))
-    → OneDone w.number w.now w.session w.seat seat act old new (Some answer)
-    → (state_of w.session.phase ≢ states.Ended) × DoesNotGoOn w.session answer error e
-    → AreStopped shards w (act ∷ []) error e seat old new
+pub unanswered : (shards : ShardsState) (w : Worker) (e : KeptSession) (seat : SeatState) (act : Action) (answer : Event) (error : EngineError) (old new : Option (List ℕ))
+    → OneDoneBy w seat act old new (Some answer)
+    → (state_of w.session.session.phase ≢ states.Ended) × DoesNotGoOn w.session w.now answer error e
+    → AreStopped shards w (act ∷ []) error e.session seat old new
 unanswered shards w e seat act answer error old new done (going, stuck) =
-    give_fails shards w w e seat w.session (act ∷ []) [] [] [] act (Some answer) error old old new refl refl (nothing_done w old) done (answer, refl, going, stuck)
+    give_fails shards w w e seat (act ∷ []) [] [] [] act (Some answer) error old old new refl (none_yet w old) done (answer, refl, going, stuck)
 
 -- ---- after others
 

@@ -6,7 +6,6 @@ use Rattle.std.specs.Io.KnownBytes.{Appends, Consumes}
 use Rattle.std.proofs.KnownBytes.{Appends-trans, Consumes-nil}
 use Rattle.table_shards.specs.Receipts.{SeatState}
 use Rattle.table_shards.specs.Rounds.{ShardsState}
-use Rattle.table_cell.specs.Histories.{CellState}
 use Rattle.session_core.specs.declared.action.Action.{Action}
 use Rattle.session_core.specs.declared.error.SessionError.{SessionError}
 use Rattle.session_core.specs.declared.error.SessionError.TheVariants as refusals
@@ -15,14 +14,16 @@ use Rattle.session_core.specs.declared.state.State.TheVariants as states
 use Rattle.session_core.specs.Phases.{Phase}
 use Rattle.session_core.specs.Phases as phases
 use Rattle.session_core.specs.Courses.{state_of_course}
-use Rattle.session_core.specs.Sessions.{SessionState, Goes, Refuses, ended, state_of}
+use Rattle.session_core.specs.Sessions.{SessionState, Refuses, ended, state_of}
+use Rattle.session_core.specs.Keeping.{KeptSession, Steps, is_staying}
 use Rattle.peers_engine.specs.declared.errors.EngineError.{EngineError}
 use Rattle.peers_engine.specs.declared.errors.EngineError.TheVariants as errors
 use Rattle.peers_engine.specs.Doing.{Done, Fails}
 use Rattle.peers_engine.specs.Acting.{Acts, DoesNotGoOn, Stops, Worker, asked, stands}
 use Rattle.peers_engine.specs.Reading.{IsRead}
 use Rattle.peers_engine.specs.Turns.{Breaks, Halts, HaltsAt, Receives, Idles, Reacts, StopsTurn, TakesTurn, Turns, first_event, is_push}
-use Rattle.peers_engine.proofs.HaltLaws.{act_stops, breaks_of, halted, idle_done, react_done, react_stops, react_stops_later, give_stops, turns_of}
+use Rattle.peers_engine.proofs.CalmLaws.{ends_after_four}
+use Rattle.peers_engine.proofs.HaltLaws.{Went, act_stops, breaks_of, give_stops, halted, idle_done, none_done, react_done, react_stops, react_stops_first, turns_of, went_first, went_on}
 
 -- ---- the actions so far, and one more
 
@@ -37,34 +38,40 @@ AreStopped shards s acts error e seat old new =
     (answers : List (Event × List Action)) × (out : List ℕ) × Stops shards s acts error answers out e seat × Appends old new out
 
 -- one action is performed
-abbrev pub OneDone : ℕ → ℕ → SessionState → SeatState → SeatState → Action → Option (List ℕ) → Option (List ℕ) → Option Event → Type 0
-OneDone n now x s t act old new answer = (out : List ℕ) × Done n now x s act out answer t × Appends old new out
+abbrev pub OneDone : Bool → ℕ → ℕ → SessionState → SeatState → SeatState → Action → Option (List ℕ) → Option (List ℕ) → Option Event → Type 0
+OneDone stays n now x s t act old new answer = (out : List ℕ) × Done stays n now x s act out answer t × Appends old new out
 
 -- one action fails
-abbrev pub OneFails : ShardsState → (CellState → ℕ) → ℕ → ℕ → SessionState → SeatState → SeatState → Action → Option (List ℕ) → Option (List ℕ) → EngineError → Type 0
-OneFails shards moments n now x s t act old new error = (out : List ℕ) × Fails shards moments n now x s act error out t × Appends old new out
+abbrev pub OneFails : ShardsState → Bool → ℕ → ℕ → SessionState → SeatState → SeatState → Action → Option (List ℕ) → Option (List ℕ) → EngineError → Type 0
+OneFails shards stays n now x s t act old new error = (out : List ℕ) × Fails shards stays n now x s act error out t × Appends old new out
+
+-- the same of a worker
+abbrev pub OneDoneBy : Worker → SeatState → Action → Option (List ℕ) → Option (List ℕ) → Option Event → Type 0
+OneDoneBy w t act old new answer = OneDone (is_staying w.session.manner) w.number w.now w.session.session w.seat t act old new answer
+
+abbrev pub OneFailsBy : ShardsState → Worker → SeatState → Action → Option (List ℕ) → Option (List ℕ) → EngineError → Type 0
+OneFailsBy shards w t act old new error = OneFails shards (is_staying w.session.manner) w.number w.now w.session.session w.seat t act old new error
 
 -- a session that isn't over doesn't go on after an answer
-abbrev pub IsNotGiven : SessionState → Option Event → SessionState → EngineError → Type 0
-IsNotGiven s answer e error = (event : Event) × (answer ≡ Some event) × (state_of s.phase ≢ states.Ended) × DoesNotGoOn s event error e
+abbrev pub IsNotGiven : KeptSession → ℕ → Option Event → KeptSession → EngineError → Type 0
+IsNotGiven s now answer e error = (event : Event) × (answer ≡ Some event) × (state_of s.session.phase ≢ states.Ended) × DoesNotGoOn s now event error e
 
 -- the next action fails
-pub next_fails : (shards : ShardsState) (s mid : Worker) (seat : SeatState) (x : SessionState) (all before rest given : List Action) (act : Action) (error : EngineError) (a b d : Option (List ℕ))
-    → all ≡ before ++ (act ∷ rest) → x ≡ mid.session → AreDone s before given mid a b → OneFails shards (λ c. mid.now) mid.number mid.now x mid.seat seat act b d error → AreStopped shards s all error mid.session seat a d
-next_fails shards s mid seat x all before rest given act error a b d is same (answers, out, acted, kept, appended) (last, fails, more) = (
+pub next_fails : (shards : ShardsState) (s mid : Worker) (seat : SeatState) (all before rest given : List Action) (act : Action) (error : EngineError) (a b d : Option (List ℕ))
+    → all ≡ before ++ (act ∷ rest) → AreDone s before given mid a b → OneFailsBy shards mid seat act b d error → AreStopped shards s all error mid.session.session seat a d
+next_fails shards s mid seat all before rest given act error a b d is (answers, out, acted, kept, appended) (last, fails, more) = (
   answers,
   out ++ last,
-  act_stops shards s mid seat all before rest act error answers out last is acted (subst (λ (y : SessionState). Fails shards (λ c. mid.now) mid.number mid.now y mid.seat act error last seat) same fails),
+  act_stops shards s mid seat all before rest act error answers out last is acted fails,
   Appends-trans a b d out last appended more,
 )
 
 -- the session doesn't go on after the answer of the next action
-pub give_fails : (shards : ShardsState) (s mid : Worker) (e : SessionState) (seat : SeatState) (x : SessionState) (all before rest given : List Action) (act : Action) (answer : Option Event) (error : EngineError) (a b d : Option (List ℕ))
-    → all ≡ before ++ (act ∷ rest) → x ≡ mid.session → AreDone s before given mid a b → OneDone mid.number mid.now x mid.seat seat act b d answer → IsNotGiven mid.session answer e error
-    → AreStopped shards s all error e seat a d
-give_fails shards s mid e seat x all before rest given act answer error a b d is same (answers, out, acted, kept, appended) (bytes, done, more) (event, some, going, stuck) =
-    let stops = give_stops shards s mid e seat all before rest act answer event error answers out bytes is acted
-    (subst (λ (y : SessionState). Done mid.number mid.now y mid.seat act bytes answer seat) same done) some going stuck in
+pub give_fails : (shards : ShardsState) (s mid : Worker) (e : KeptSession) (seat : SeatState) (all before rest given : List Action) (act : Action) (answer : Option Event) (error : EngineError) (a b d : Option (List ℕ))
+    → all ≡ before ++ (act ∷ rest) → AreDone s before given mid a b → OneDoneBy mid seat act b d answer → IsNotGiven mid.session mid.now answer e error
+    → AreStopped shards s all error e.session seat a d
+give_fails shards s mid e seat all before rest given act answer error a b d is (answers, out, acted, kept, appended) (bytes, done, more) (event, some, going, stuck) =
+    let stops = give_stops shards s mid e seat all before rest act answer event error answers out bytes is acted done some going stuck in
     (stops.0, out ++ bytes, stops.1, Appends-trans a b d out bytes appended more)
 
 -- ---- one event
@@ -75,28 +82,45 @@ HasReacted s event e old new = (out : List ℕ) × Reacts s event out e × Appen
 abbrev pub HasHalted : ShardsState → Worker → Event → SessionState → SeatState → Option (List ℕ) → Option (List ℕ) → EngineError → Type 0
 HasHalted shards s event e seat old new error = (out : List ℕ) × Halts shards s event error out e seat × Appends old new out
 
+-- so far, with the bytes that were written
+abbrev pub HasWent : Worker → List Action → List Action → List Action → Worker → Option (List ℕ) → Option (List ℕ) → Type 0
+HasWent s acts done given e old new = (out : List ℕ) × Went s acts done given e out × Appends old new out
+
+pub first_went : (s e : Worker) (acts given : List Action) (a b : Option (List ℕ)) → AreDone s acts given e a b → HasWent s acts [] given e a b
+first_went s e acts given a b (answers, out, acted, kept, appended) = (out, went_first s e acts given answers out acted kept, appended)
+
+pub next_went : (s mid e : Worker) (acts done given more : List Action) (a b d : Option (List ℕ)) → HasWent s acts done given mid a b → AreDone mid given more e b d → HasWent s acts (done ++ given) more e a d
+next_went s mid e acts done given more a b d (out, went, appended) (answers, rest, acted, kept, then) =
+    (out ++ rest, went_on s mid e acts done given more answers out rest went acted kept, Appends-trans a b d out rest appended then)
+
 -- an error among what the event asked for
-pub first_fails : (shards : ShardsState) (s : Worker) (mid e : SessionState) (seat : SeatState) (event : Event) (acts : List Action) (error : EngineError) (a b : Option (List ℕ))
-    → Goes s.session event acts mid → AreStopped shards (stands s mid s.seat) acts error e seat a b → HasHalted shards s event e seat a b error
-first_fails shards s mid e seat event acts error a b goes (answers, out, stops, appended) = (out, react_stops shards s mid e seat event acts error answers out goes stops, appended)
+pub first_fails : (shards : ShardsState) (s : Worker) (mid : KeptSession) (e : SessionState) (seat : SeatState) (event : Event) (acts : List Action) (error : EngineError) (a b : Option (List ℕ))
+    → Steps s.session s.now event acts mid → AreStopped shards (stands s mid s.seat) acts error e seat a b → HasHalted shards s event e seat a b error
+first_fails shards s mid e seat event acts error a b taken (answers, out, stops, appended) = (out, react_stops_first shards s mid e seat event acts error answers out taken stops, appended)
 
 -- an error among what the answers asked for
-pub second_fails : (shards : ShardsState) (s next : Worker) (mid e : SessionState) (seat : SeatState) (event : Event) (acts given : List Action) (error : EngineError) (a b d : Option (List ℕ))
-    → Goes s.session event acts mid → AreDone (stands s mid s.seat) acts given next a b → AreStopped shards next given error e seat b d → HasHalted shards s event e seat a d error
-second_fails shards s next mid e seat event acts given error a b d goes (answers, out, acted, kept, appended) (more, rest, stops, then) = (
-  out ++ rest,
-  react_stops_later shards s next mid e seat event acts error answers more out rest goes acted (subst (λ (x : List Action). Stops shards next x error more rest e seat) kept stops),
-  Appends-trans a b d out rest appended then,
-)
+pub later_fails : (shards : ShardsState) (s next : Worker) (mid : KeptSession) (e : SessionState) (seat : SeatState) (event : Event) (acts done given : List Action) (error : EngineError) (a b d : Option (List ℕ))
+    → Steps s.session s.now event acts mid → HasWent (stands s mid s.seat) acts done given next a b → AreStopped shards next given error e seat b d → HasHalted shards s event e seat a d error
+later_fails shards s next mid e seat event acts done given error a b d taken (out, went, appended) (more, rest, stops, then) =
+    (out ++ rest, react_stops shards s next mid e seat event acts done given error more out rest taken went stops, Appends-trans a b d out rest appended then)
 
--- everything is performed, and nothing more is asked for
-pub both_done : (s next e : Worker) (mid : SessionState) (event : Event) (acts given last : List Action) (a b d : Option (List ℕ))
-    → Goes s.session event acts mid → AreDone (stands s mid s.seat) acts given next a b → AreDone next given last e b d → HasReacted s event e a d
-both_done s next e mid event acts given last a b d goes (answers, out, acted, kept, appended) (more, rest, then, is, also) = (
-  out ++ rest,
-  react_done s next e mid event acts answers more out rest goes acted (subst (λ (x : List Action). Acts next x more rest e) kept then),
-  Appends-trans a b d out rest appended also,
-)
+-- the four lists of actions are performed, and nothing more is asked for
+pub four_done : (s one two three e : Worker) (mid : KeptSession) (event : Event) (acts first second third last : List Action) (a b d f h : Option (List ℕ))
+    → Steps s.session s.now event acts mid → AreDone (stands s mid s.seat) acts first one a b → AreDone one first second two b d → AreDone two second third three d f → AreDone three third last e f h
+    → HasReacted s event e a h
+four_done s one two three e mid event acts first second third last a b d f h taken done_one done_two done_three done_four =
+    let begun = stands s mid s.seat in
+    let went = next_went begun three e acts (([] ++ first) ++ second) third last a f h
+    (next_went begun two three acts ([] ++ first) second third a d f (next_went begun one two acts [] first second a b d (first_went begun one acts first a b done_one) done_two) done_three) done_four in
+    (went.0, react_done s e mid event acts ((([] ++ first) ++ second) ++ third) last went.0 taken went.1 (four_end begun one two three e acts first second third last a b d f h done_one done_two done_three done_four), went.2)
+  where
+    four_end : (begun one two three e : Worker) (acts first second third last : List Action) (a b d f h : Option (List ℕ))
+        → AreDone begun acts first one a b → AreDone one first second two b d → AreDone two second third three d f → AreDone three third last e f h → last ≡ []
+    four_end begun one two three e acts first second third last a b d f h (p, w, acted, is, also) (q, x, acted_two, is_two, also_two) (r, y, acted_three, is_three, also_three) (t, z, acted_four, is_four, also_four) =
+        is_four ∙ ends_after_four begun one two three e acts p q r t w x y z acted
+        (subst (λ (g : List Action). Acts one g q x two) is acted_two)
+        (subst (λ (g : List Action). Acts two g r y three) is_two acted_three)
+        (subst (λ (g : List Action). Acts three g t z e) is_three acted_four)
 
 abbrev pub is_ok_true : Result Bool EngineError → Bool
 is_ok_true (Ok x) = x
@@ -110,11 +134,24 @@ idle_of result is = ap is_ok_true is
 abbrev pub HasIdled : Worker → Event → Worker → Option (List ℕ) → Option (List ℕ) → Type 0
 HasIdled s event e old new = Idles s event e × Appends old new []
 
-pub both_idle : (s next e : Worker) (mid : SessionState) (event : Event) (acts given last : List Action) (a b d : Option (List ℕ))
-    → Goes s.session event acts mid → AreDone (stands s mid s.seat) acts given next a b → AreDone next given last e b d → list_all is_push acts ≡ true → given ≡ [] → HasIdled s event e a d
-both_idle s next e mid event acts given last a b d goes (answers, out, acted, kept, appended) (more, rest, then, is, also) pushes none =
-    let idle = idle_done s next e mid event acts answers more out rest goes acted (subst (λ (x : List Action). Acts next x more rest e) kept then) pushes (sym kept ∙ none) in
-    (idle.0, subst (λ (x : List ℕ). Appends a d x) idle.1 (Appends-trans a b d out rest appended also))
+-- no list of actions leads to anything
+pub nothing_done : (s e : Worker) (given more : List Action) (a b : Option (List ℕ)) → given ≡ [] → AreDone s given more e a b → (more ≡ []) × (e ≡ s) × Appends a b []
+nothing_done s e given more a b none (answers, out, acted, is, appended) =
+    let nothing = none_done s e given answers out none acted in
+    (is ∙ nothing.0, nothing.2, subst (λ (x : List ℕ). Appends a b x) nothing.1 appended)
+
+pub four_idle : (s one two three e : Worker) (mid : KeptSession) (event : Event) (acts first second third last : List Action) (a b d f h : Option (List ℕ))
+    → Steps s.session s.now event acts mid → AreDone (stands s mid s.seat) acts first one a b → AreDone one first second two b d → AreDone two second third three d f → AreDone three third last e f h
+    → list_all is_push acts ≡ true → first ≡ [] → HasIdled s event e a h
+four_idle s one two three e mid event acts first second third last a b d f h taken (answers, out, acted, kept, appended) done_two done_three done_four pushes none =
+    let idle = idle_done s one mid event acts answers out taken acted pushes (sym kept ∙ none) in
+    let then = nothing_done one two first second b d none done_two in
+    let after = nothing_done two three second third d f then.0 done_three in
+    let last_of = nothing_done three e third last f h after.0 done_four in
+    let same : e ≡ one = last_of.1 ∙ (after.1 ∙ then.1) in (
+      subst (λ (x : Worker). Idles s event x) (sym same) idle.0,
+      Appends-trans a b h [] [] (subst (λ (x : List ℕ). Appends a b x) idle.1 appended) (Appends-trans b d h [] [] then.2 (Appends-trans d f h [] [] after.2 last_of.2)),
+    )
 
 -- ---- a turn
 
@@ -135,33 +172,33 @@ read_fails shards {at_end} s e seat found event error from to a b is (read, read
     (Some event, read, out, subst (λ (x : Option Event). IsRead at_end x read) is reads, halts, consumed, appended)
 
 -- the first event leaves nothing to do, and then the turn reads
-pub then_done : {at_end untouched : Type 0} (s mid e : Worker) (event : Event) (from to a b d : Option (List ℕ)) → event ≡ first_event (state_of s.session.phase) → HasIdled s event mid a b
+pub then_done : {at_end untouched : Type 0} (s mid e : Worker) (event : Event) (from to a b d : Option (List ℕ)) → event ≡ first_event (state_of s.session.session.phase) → HasIdled s event mid a b
     → ((received : Option Event) × (read out : List ℕ) × IsRead at_end received read × Receives mid received out e × Consumes from to read × Appends b d out)
     → HasTurned at_end untouched s e from to a d
 then_done s mid e event from to a b d is (idles, silent) (received, read, out, reads, receives, consumed, more) =
     (received, read, out, reads, inr (mid, subst (λ (x : Event). Idles s x mid) is idles, receives), consumed, Appends-trans a b d [] out silent more)
 
-pub then_fails : (shards : ShardsState) {at_end untouched : Type 0} (s mid : Worker) (e : SessionState) (seat : SeatState) (event : Event) (error : EngineError) (from to a b d : Option (List ℕ)) → event ≡ first_event (state_of s.session.phase) → HasIdled s event mid a b
+pub then_fails : (shards : ShardsState) {at_end untouched : Type 0} (s mid : Worker) (e : SessionState) (seat : SeatState) (event : Event) (error : EngineError) (from to a b d : Option (List ℕ)) → event ≡ first_event (state_of s.session.session.phase) → HasIdled s event mid a b
     → ((received : Option Event) × (read out : List ℕ) × IsRead at_end received read × HaltsAt shards mid received error out e seat × Consumes from to read × Appends b d out)
     → HasStopped shards at_end untouched s e seat from to a d error
 then_fails shards s mid e seat event error from to a b d is (idles, silent) (received, read, out, reads, halts, consumed, more) =
     (received, read, out, reads, inr (mid, subst (λ (x : Event). Idles s x mid) is idles, halts), consumed, Appends-trans a b d [] out silent more)
 
 -- the first event alone, without using the reader
-pub alone_done : {at_end untouched : Type 0} (s e : Worker) (event : Event) (known a b : Option (List ℕ)) → event ≡ first_event (state_of s.session.phase) → HasReacted s event e a b → untouched → HasTurned at_end untouched s e known known a b
+pub alone_done : {at_end untouched : Type 0} (s e : Worker) (event : Event) (known a b : Option (List ℕ)) → event ≡ first_event (state_of s.session.session.phase) → HasReacted s event e a b → untouched → HasTurned at_end untouched s e known known a b
 alone_done s e event known a b is (out, reacts, appended) still =
     (None, [], out, refl, inl (still, refl, subst (λ (x : Event). Reacts s x out e) is reacts), Consumes-nil known, appended)
 
-pub alone_fails : (shards : ShardsState) {at_end untouched : Type 0} (s : Worker) (e : SessionState) (seat : SeatState) (event : Event) (error : EngineError) (known a b : Option (List ℕ)) → event ≡ first_event (state_of s.session.phase) → HasHalted shards s event e seat a b error
+pub alone_fails : (shards : ShardsState) {at_end untouched : Type 0} (s : Worker) (e : SessionState) (seat : SeatState) (event : Event) (error : EngineError) (known a b : Option (List ℕ)) → event ≡ first_event (state_of s.session.session.phase) → HasHalted shards s event e seat a b error
     → untouched → HasStopped shards at_end untouched s e seat known known a b error
 alone_fails shards s e seat event error known a b is (out, halts, appended) still =
     (None, [], out, refl, inl (still, refl, subst (λ (x : Event). Halts shards s x error out e seat) is halts), Consumes-nil known, appended)
 
 -- the session after a turn
-pub turned : {at_end untouched : Type 0} (s e : Worker) (from to a b : Option (List ℕ)) → HasTurned at_end untouched s e from to a b → Turns s.session e.session
+pub turned : {at_end untouched : Type 0} (s e : Worker) (from to a b : Option (List ℕ)) → HasTurned at_end untouched s e from to a b → Turns s.now s.session e.session
 turned s e from to a b (received, read, out, reads, all, consumed, appended) = turns_of s e received out all
 
-pub broken : (shards : ShardsState) {at_end untouched : Type 0} (s : Worker) (e new : SessionState) (seat : SeatState) (error : EngineError) (from to a b : Option (List ℕ)) → HasStopped shards at_end untouched s e seat from to a b error → new ≡ ended e → Breaks s.session new
+pub broken : (shards : ShardsState) {at_end untouched : Type 0} (s : Worker) (e new : SessionState) (seat : SeatState) (error : EngineError) (from to a b : Option (List ℕ)) → HasStopped shards at_end untouched s e seat from to a b error → new ≡ ended e → Breaks s.now s.session new
 broken shards s e new seat error from to a b (received, read, out, reads, stops, consumed, appended) is = breaks_of shards s e new seat received error out stops is
 
 pub stopped : (shards : ShardsState) {at_end untouched : Type 0} (s : Worker) (e new : SessionState) (seat : SeatState) (error : EngineError) (from to a b : Option (List ℕ)) → HasStopped shards at_end untouched s e seat from to a b error → new ≡ ended e → HasStopped shards at_end untouched s new seat from to a b error
@@ -189,4 +226,10 @@ pub over_stops : {X : Type 0} (P Q : Type 0) (phase : Phase) (event : Event) (re
     → ((why : SessionError) → why ≢ refusals.Memory → Refuses phase event why → (result ≡ Err (errors.Session why)) × P × Q) → result ≡ Err error → (error ≡ errors.Session refusals.Ended) × P × Q
 over_stops {X} P Q phase event result error is refused err =
     let stops = refused refusals.Ended (λ same. cc same) (refuses_over phase event is) in
+    (ap (λ (r : Result X EngineError). error_of error r) (sym err ∙ stops.0), stops.1, stops.2)
+
+-- the call on which a turn stops is refused for that cause, and nothing else happens
+pub stops_with_cause : {X : Type 0} (P Q : Type 0) (result : Result X EngineError) (error : EngineError) (why : SessionError)
+    → (result ≡ Err (errors.Session why)) × P × Q → result ≡ Err error → (error ≡ errors.Session why) × P × Q
+stops_with_cause {X} P Q result error why stops err =
     (ap (λ (r : Result X EngineError). error_of error r) (sym err ∙ stops.0), stops.1, stops.2)

@@ -8,7 +8,8 @@ use Rattle.session_core.specs.declared.error.SessionError.{SessionError}
 use Rattle.session_core.specs.declared.event.Event.{Event}
 use Rattle.session_core.specs.declared.state.State.{State}
 use Rattle.session_core.specs.declared.state.State.TheVariants as states
-use Rattle.session_core.specs.Sessions.{SessionState, Goes, Refuses, ended, state_of}
+use Rattle.session_core.specs.Keeping.{KeptSession, Steps, is_staying}
+use Rattle.session_core.specs.Sessions.{SessionState, Refuses, ended, state_of}
 use Rattle.peers_engine.specs.declared.errors.EngineError.{EngineError}
 use Rattle.peers_engine.specs.declared.errors.EngineError.TheVariants as errors
 use Rattle.peers_engine.specs.Doing.{Done, Fails}
@@ -16,26 +17,34 @@ use Rattle.peers_engine.specs.Doing.{Done, Fails}
 -- A session at work: its state, the seat from which it calls the tables, its number in them, and the moment of the
 -- turn.
 pub record Worker : Type 0 where
-  pub session : SessionState
+  pub session : KeptSession
   pub seat : SeatState
   pub number : ℕ
   pub now : ℕ
 
-abbrev pub worker : SessionState → SeatState → ℕ → ℕ → Worker
+abbrev pub worker : KeptSession → SeatState → ℕ → ℕ → Worker
 worker s seat number now = record { session = s; seat = seat; number = number; now = now }
 
 -- the same worker with the session `s` and the seat `seat`
-abbrev pub stands : Worker → SessionState → SeatState → Worker
+abbrev pub stands : Worker → KeptSession → SeatState → Worker
 stands w s seat = worker s seat w.number w.now
 
--- The session receives an answer, if there is one, as the one event of a run. A session that is over receives nothing.
-abbrev pub IsGivenIn : State → SessionState → Event → List (Event × List Action) → SessionState → Type 0
-IsGivenIn states.Ended s event steps e = (steps ≡ []) × (e ≡ s)
-IsGivenIn state s event steps e = (acts : List Action) × Goes s event acts e × (steps ≡ (event, acts) ∷ [])
+-- the worker performs an action, at the moment of a plain session or of one that stays
+abbrev pub DoneBy : Worker → Action → List ℕ → Option Event → SeatState → Type 0
+DoneBy w act out answer seat = Done (is_staying w.session.manner) w.number w.now w.session.session w.seat act out answer seat
 
-abbrev pub IsGiven : SessionState → Option Event → List (Event × List Action) → SessionState → Type 0
-IsGiven s None steps e = (steps ≡ []) × (e ≡ s)
-IsGiven s (Some event) steps e = IsGivenIn (state_of s.phase) s event steps e
+-- the worker fails to
+abbrev pub FailsBy : ShardsState → Worker → Action → EngineError → List ℕ → SeatState → Type 0
+FailsBy shards w act error out seat = Fails shards (is_staying w.session.manner) w.number w.now w.session.session w.seat act error out seat
+
+-- The session receives an answer, if there is one, as the one event of a run. A session that is over receives nothing.
+abbrev pub IsGivenIn : State → KeptSession → ℕ → Event → List (Event × List Action) → KeptSession → Type 0
+IsGivenIn states.Ended s now event steps e = (steps ≡ []) × (e ≡ s)
+IsGivenIn state s now event steps e = (acts : List Action) × Steps s now event acts e × (steps ≡ (event, acts) ∷ [])
+
+abbrev pub IsGiven : KeptSession → ℕ → Option Event → List (Event × List Action) → KeptSession → Type 0
+IsGiven s now None steps e = (steps ≡ []) × (e ≡ s)
+IsGiven s now (Some event) steps e = IsGivenIn (state_of s.session.phase) s now event steps e
 
 -- Actions are performed one after another, each for the session as the answers so far left it, which receives the
 -- answer at once: the answers received, each with what it asked for; what was written; and the worker at the end.
@@ -46,9 +55,9 @@ Acts w (act ∷ acts) answers out e =
     × (answer : Option Event)
     × (first rest : List (Event × List Action))
     × (seat : SeatState)
-    × (mid : SessionState)
-    × Done w.number w.now w.session w.seat act bytes answer seat
-    × IsGiven w.session answer first mid
+    × (mid : KeptSession)
+    × DoneBy w act bytes answer seat
+    × IsGiven w.session w.now answer first mid
     × Acts (stands w mid seat) acts rest more e
     × (answers ≡ first ++ rest)
     × (out ≡ bytes ++ more)
@@ -65,19 +74,19 @@ IsRefused s event error = (why : SessionError) × Refuses s.phase event why × (
 
 -- A session doesn't go on after an event: it refuses the event; or receives it, and memory runs out for what it asks
 -- for.
-abbrev pub DoesNotGoOn : SessionState → Event → EngineError → SessionState → Type 0
-DoesNotGoOn s event error e =
-    (IsRefused s event error × (e ≡ ended s))
-    ⊎ ((acts : List Action) × Goes s event acts e × (error ≡ errors.Memory))
+abbrev pub DoesNotGoOn : KeptSession → ℕ → Event → EngineError → KeptSession → Type 0
+DoesNotGoOn s now event error e =
+    (IsRefused s.session event error × (e.session ≡ ended s.session))
+    ⊎ ((acts : List Action) × Steps s now event acts e × (error ≡ errors.Memory))
 
 -- Why the first of the remaining actions was the last, what was written for it, and how it left the seat: it failed; or
 -- it succeeded, and the session refused its answer.
 abbrev pub IsCut : ShardsState → Worker → List Action → EngineError → List ℕ → SeatState → Type 0
 IsCut shards w [] error out seat = ⊥
 IsCut shards w (act ∷ rest) error out seat =
-    Fails shards (λ c. w.now) w.number w.now w.session w.seat act error out seat
-    ⊎ ((answer : Event) × Done w.number w.now w.session w.seat act out (Some answer) seat
-    × (state_of w.session.phase ≢ states.Ended) × IsRefused w.session answer error)
+    FailsBy shards w act error out seat
+    ⊎ ((answer : Event) × DoneBy w act out (Some answer) seat
+    × (state_of w.session.session.phase ≢ states.Ended) × IsRefused w.session.session answer error)
 
 -- memory ran out for what an answer that was received asks for
 abbrev pub IsLost : List (Event × List Action) → EngineError → List ℕ → Type 0
@@ -94,4 +103,4 @@ Stops shards w acts error answers out e seat =
     × Acts w before answers first mid
     × (IsCut shards mid rest error last seat ⊎ (IsLost answers error last × (seat ≡ mid.seat)))
     × (out ≡ first ++ last)
-    × (ended e ≡ ended mid.session)
+    × (ended e ≡ ended mid.session.session)

@@ -3,7 +3,7 @@
 -- table leaves its receipt at the seat, with the answer. A call that makes none leaves the seat as it was, unless the table
 -- is full, has nothing to copy, refuses an acknowledgement as ahead or finds a batch to be the latest one: that answer is
 -- then at the seat.
-use Rattle.std.specs.Prelude.{◌≡◌, ◌⊎◌, ℕ, ◌==◌, max, false, List, Option, Result, Ok, Err, Some, None, slice_get}
+use Rattle.std.specs.Prelude.{◌≡◌, ◌⊎◌, ℕ, ◌==◌, max, Bool, true, false, List, Option, Result, Ok, Err, Some, None, slice_get}
 use Rattle.std.specs.List.{list_any}
 use Rattle.table_types.specs.declared.update.Update.{Update}
 use Rattle.table_types.specs.declared.copies.CopyKind.{CopyKind}
@@ -58,10 +58,6 @@ CallsCopyOn c n now s table kind answer t =
     × Notes (λ mid. Holds (λ x r y. Copies x n kind most_copied now r y) (λ batch. receipted table c s (events.Copy n kind most_copied now) (replies.Copy batch)) table c s answer e mid)
     table n (events_of c) (if_nothing kind most_copied now answer) t
 
--- the same, of some cell
-abbrev pub CallsCopy : ℕ → ℕ → SeatState → ℕ → CopyKind → Result (List Update) (ShardError CopyError) → SeatState → Type 0
-CallsCopy n now s table kind answer t = (c : CellState) × CallsCopyOn c n now s table kind answer t
-
 abbrev pub CallsAck : ℕ → SeatState → ℕ → ℕ → Result Settled (ShardError AckError) → SeatState → Type 0
 CallsAck n s table number answer t =
     (c : CellState) × IsSoundTable c × (e : CellState)
@@ -86,8 +82,13 @@ abbrev pub IsLearnedOn : CellState → ℕ → ℕ → SeatState → Update → 
 IsLearnedOn c n now s u t =
     ((reply : Reply) × CallsLearnOn c n now s u (Ok reply) t) ⊎ CallsLearnOn c n now s u (Err (errors.Cell learn_errors.TableFull)) t
 
-abbrev pub IsLearned : ℕ → ℕ → SeatState → Update → SeatState → Type 0
-IsLearned n now s u t = (c : CellState) × IsLearnedOn c n now s u t
+-- The moment of a call on the table `c`: `now`; or, in a session that stays, the table's latest one if that is later.
+abbrev pub moment_at : Bool → ℕ → CellState → ℕ
+moment_at true now c = max now c.state.latest
+moment_at false now c = now
+
+abbrev pub IsLearned : Bool → ℕ → ℕ → SeatState → Update → SeatState → Type 0
+IsLearned stays n now s u t = (c : CellState) × (at : ℕ) × (at ≡ moment_at stays now c) × IsLearnedOn c n at s u t
 
 -- an acknowledgement is passed on, and `event` is the answer to the session
 abbrev pub IsTaken : ℕ → SeatState → ℕ → ℕ → SeatState → Event → Type 0
@@ -101,20 +102,9 @@ IsCopiedOn c n now s table kind t event =
     ((batch : List Update) × (event ≡ answers.Copied table batch) × CallsCopyOn c n now s table kind (Ok batch) t)
     ⊎ ((event ≡ answers.Nothing table) × CallsCopyOn c n now s table kind (Err (errors.Cell copy_errors.Nothing)) t)
 
-abbrev pub IsCopied : ℕ → ℕ → SeatState → ℕ → CopyKind → SeatState → Event → Type 0
-IsCopied n now s table kind t event = (c : CellState) × IsCopiedOn c n now s table kind t event
-
--- the moment `now`, or the table's latest one if that is later
-abbrev pub late : ℕ → CellState → ℕ
-late now c = max now c.state.latest
-
--- the same of a call at that moment
-abbrev pub IsLearnedLate : ℕ → ℕ → SeatState → Update → SeatState → Type 0
-IsLearnedLate n now s u t = (c : CellState) × (at : ℕ) × (at ≡ late now c) × IsLearnedOn c n at s u t
-
-abbrev pub IsCopiedLate : ℕ → ℕ → SeatState → ℕ → CopyKind → SeatState → Event → Type 0
-IsCopiedLate n now s table kind t event =
-    (c : CellState) × (at : ℕ) × (at ≡ late now c) × IsCopiedOn c n at s table kind t event
+abbrev pub IsCopied : Bool → ℕ → ℕ → SeatState → ℕ → CopyKind → SeatState → Event → Type 0
+IsCopied stays n now s table kind t event =
+    (c : CellState) × (at : ℕ) × (at ≡ moment_at stays now c) × IsCopiedOn c n at s table kind t event
 
 -- the version with which a session is opened in its tables: the one that it speaks, or 2.1 until its hello is done
 abbrev pub opened_with : Option Version → Version

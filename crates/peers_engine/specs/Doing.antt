@@ -1,5 +1,5 @@
 -- How a session's actions are performed, and what is written for them.
-use Rattle.std.specs.Prelude.{◌≡◌, ◌⊎◌, ◌<◌, ℕ, List, [], ◌∷◌, length, take, Option, Some, None, Ok, Err}
+use Rattle.std.specs.Prelude.{◌≡◌, ◌⊎◌, ◌<◌, ℕ, Bool, List, [], ◌∷◌, length, take, Option, Some, None, Ok, Err}
 use Rattle.std.specs.Io.KnownBytes.{Appends}
 use Rattle.table_types.specs.declared.update.Update.{Update}
 use Rattle.table_types.specs.declared.copies.Settled.{Settled}
@@ -8,7 +8,6 @@ use Rattle.peers_msg.specs.declared.control.ErrorKind.{ErrorKind}
 use Rattle.peers_msg.specs.Spelling.{error_type}
 use Rattle.table_cell.specs.Histories.{CellState}
 use Rattle.table_cell.specs.declared.errors.AckError.TheVariants as acks
-use Rattle.table_cell.specs.declared.errors.CopyError.TheVariants as copies
 use Rattle.table_shards.specs.declared.errors.ShardError.TheVariants as shards
 use Rattle.table_shards.specs.Receipts.{SeatState}
 use Rattle.table_shards.specs.Rounds.{ShardsState}
@@ -19,7 +18,7 @@ use Rattle.session_core.specs.declared.action.Action.TheVariants as actions
 use Rattle.session_core.specs.declared.event.Event.{Event}
 use Rattle.session_core.specs.declared.event.Event.TheVariants as events
 use Rattle.session_core.specs.Sessions.{SessionState}
-use Rattle.peers_engine.specs.Calls.{CallsAck, CallsClose, CallsCopy, IsLearned, IsReopened, IsSettled, IsUncopied, IsUnlearned, IsUnopened, IsUnsettled, IsUntaken, opened_with}
+use Rattle.peers_engine.specs.Calls.{CallsAck, CallsClose, IsCopied, IsLearned, IsReopened, IsSettled, IsUncopied, IsUnlearned, IsUnopened, IsUnsettled, IsUntaken, moment_at, opened_with}
 use Rattle.peers_engine.specs.declared.errors.EngineError.{EngineError}
 use Rattle.peers_engine.specs.declared.errors.EngineError.TheVariants as errors
 
@@ -28,21 +27,19 @@ abbrev pub error_text : ErrorKind → List ℕ
 error_text kind = 1 ∷ (error_type kind ∷ [])
 
 -- Session `n`, which is `x`, performs an action from the seat `s` at the moment `now`: what is written for it, its answer,
--- and how it leaves the seat.
-abbrev pub Done : ℕ → ℕ → SessionState → SeatState → Action → List ℕ → Option Event → SeatState → Type 0
-Done n now x s (actions.Send bytes) out answer t = (out ≡ bytes) × (answer ≡ None) × (t ≡ s)
-Done n now x s (actions.Learn u) out answer t = (out ≡ []) × (answer ≡ None) × IsLearned n now s u t
-Done n now x s (actions.Ack table number) out answer t = (out ≡ [])
+-- and how it leaves the seat. The moment of a call is that of one that stays, or that of a plain one.
+abbrev pub Done : Bool → ℕ → ℕ → SessionState → SeatState → Action → List ℕ → Option Event → SeatState → Type 0
+Done stays n now x s (actions.Send bytes) out answer t = (out ≡ bytes) × (answer ≡ None) × (t ≡ s)
+Done stays n now x s (actions.Learn u) out answer t = (out ≡ []) × (answer ≡ None) × IsLearned stays n now s u t
+Done stays n now x s (actions.Ack table number) out answer t = (out ≡ [])
     × (((settled : Settled) × (answer ≡ Some (events.Settled table settled)) × CallsAck n s table number (Ok settled) t)
     ⊎ ((answer ≡ Some (events.Refused table)) × CallsAck n s table number (Err (shards.Cell acks.AckAhead)) t))
-Done n now x s (actions.Reopen table) out answer t = (out ≡ []) × (answer ≡ None) × IsReopened n (opened_with x.version) s table t
-Done n now x s (actions.Copy table kind) out answer t = (out ≡ [])
-    × (((batch : List Update) × (answer ≡ Some (events.Copied table batch)) × CallsCopy n now s table kind (Ok batch) t)
-    ⊎ ((answer ≡ Some (events.Nothing table)) × CallsCopy n now s table kind (Err (shards.Cell copies.Nothing)) t))
-Done n now x s (actions.Teach batch) out answer t =
+Done stays n now x s (actions.Reopen table) out answer t = (out ≡ []) × (answer ≡ None) × IsReopened n (opened_with x.version) s table t
+Done stays n now x s (actions.Copy table kind) out answer t = (out ≡ []) × (event : Event) × (answer ≡ Some event) × IsCopied stays n now s table kind t event
+Done stays n now x s (actions.Teach batch) out answer t =
     (after : KnownState) × IsShortestLesson x.known batch out after × (answer ≡ Some (events.Written after)) × IsSettled n s batch t
-Done n now x s (actions.Part kind) out answer t = (out ≡ error_text kind) × (answer ≡ None) × (t ≡ s)
-Done n now x s actions.Close out answer t = (out ≡ []) × (answer ≡ None) × (t ≡ s)
+Done stays n now x s (actions.Part kind) out answer t = (out ≡ error_text kind) × (answer ≡ None) × (t ≡ s)
+Done stays n now x s actions.Close out answer t = (out ≡ []) × (answer ≡ None) × (t ≡ s)
 
 -- The error of what isn't done: `Memory`, which no clause denies, or `Strange` for the cause given.
 abbrev pub IsRefusal : Type 0 → EngineError → Type 0
@@ -84,9 +81,9 @@ abbrev pub IsUndone : ShardsState → (CellState → ℕ) → ℕ → SessionSta
 IsUndone shards at n x s act error out t = IsRefusal (IsStrange shards at n x s act t) error × IsAtTable act × (out ≡ []) × IsLeft n s act t
 
 -- an action is done, but exactly the first `sent` of its bytes are written, and not all
-abbrev pub IsCutOff : ℕ → ℕ → SessionState → SeatState → Action → ℕ → List ℕ → SeatState → Type 0
-IsCutOff n now x s act sent out t =
-    (bytes : List ℕ) × (answer : Option Event) × Done n now x s act bytes answer t × (sent < length bytes) × (out ≡ take sent bytes)
+abbrev pub IsCutOff : Bool → ℕ → ℕ → SessionState → SeatState → Action → ℕ → List ℕ → SeatState → Type 0
+IsCutOff stays n now x s act sent out t =
+    (bytes : List ℕ) × (answer : Option Event) × Done stays n now x s act bytes answer t × (sent < length bytes) × (out ≡ take sent bytes)
 
 -- the action whose bytes are made while they are written
 abbrev pub IsTeach : Action → Type 0
@@ -95,8 +92,8 @@ IsTeach act = ⊥
 
 -- An action fails, and leaves the seat: a write failed after some of its bytes, or memory ran out after some bytes of a
 -- lesson, and the seat is as the action leaves it; or a table refused it or memory ran out, and nothing was written.
-abbrev pub Fails : ShardsState → (CellState → ℕ) → ℕ → ℕ → SessionState → SeatState → Action → EngineError → List ℕ → SeatState → Type 0
-Fails shards at n now x s act (errors.Write sent) out t = IsCutOff n now x s act sent out t
-Fails shards at n now x s act errors.Memory out t =
-    IsUndone shards at n x s act errors.Memory out t ⊎ (IsTeach act × (sent : ℕ) × IsCutOff n now x s act sent out t)
-Fails shards at n now x s act error out t = IsUndone shards at n x s act error out t
+abbrev pub Fails : ShardsState → Bool → ℕ → ℕ → SessionState → SeatState → Action → EngineError → List ℕ → SeatState → Type 0
+Fails shards stays n now x s act (errors.Write sent) out t = IsCutOff stays n now x s act sent out t
+Fails shards stays n now x s act errors.Memory out t =
+    IsUndone shards (moment_at stays now) n x s act errors.Memory out t ⊎ (IsTeach act × (sent : ℕ) × IsCutOff stays n now x s act sent out t)
+Fails shards stays n now x s act error out t = IsUndone shards (moment_at stays now) n x s act error out t

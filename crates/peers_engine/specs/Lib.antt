@@ -3,5 +3,5 @@ pub mod Doing
 pub mod Reading
 pub mod Acting
 pub mod Turns
-pub mod Staying
+pub mod Ticks
 pub mod Writing

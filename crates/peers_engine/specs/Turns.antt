@@ -8,8 +8,8 @@ use Rattle.session_core.specs.declared.event.Event.{Event}
 use Rattle.session_core.specs.declared.event.Event.TheVariants as events
 use Rattle.session_core.specs.declared.state.State.{State}
 use Rattle.session_core.specs.declared.state.State.TheVariants as states
-use Rattle.session_core.specs.Sessions.{SessionState, Goes, ended, state_of}
-use Rattle.session_core.specs.Runs.{Runs}
+use Rattle.session_core.specs.Keeping.{KeptSession, Steps, Walks}
+use Rattle.session_core.specs.Sessions.{SessionState, ended, state_of}
 use Rattle.table_shards.specs.Receipts.{SeatState}
 use Rattle.table_shards.specs.Rounds.{ShardsState}
 use Rattle.peers_engine.specs.declared.errors.EngineError.{EngineError}
@@ -23,13 +23,13 @@ first_event state = events.Turn
 
 -- ---- how the session moved
 
--- it moved by a run that begins with the turn's first event
-abbrev pub Turns : SessionState → SessionState → Type 0
-Turns s e = (acts : List Action) × (steps : List (Event × List Action)) × Runs s ((first_event (state_of s.phase), acts) ∷ steps) e
+-- it moved by events at this moment, of which the turn's first one is the first
+abbrev pub Turns : ℕ → KeptSession → KeptSession → Type 0
+Turns now s e = (acts : List Action) × (steps : List (Event × List Action)) × Walks now s ((first_event (state_of s.session.phase), acts) ∷ steps) e
 
--- it moved by such a run or none, and was then ended
-abbrev pub Breaks : SessionState → SessionState → Type 0
-Breaks s e = (e ≡ ended s) ⊎ ((mid : SessionState) × Turns s mid × (e ≡ ended mid))
+-- it moved by such events or by none, and was then ended
+abbrev pub Breaks : ℕ → KeptSession → SessionState → Type 0
+Breaks now s e = (e ≡ ended s.session) ⊎ ((mid : KeptSession) × Turns now s mid × (e ≡ ended mid.session))
 
 -- ---- what was done
 
@@ -39,18 +39,18 @@ abbrev pub Reacts : Worker → Event → List ℕ → Worker → Type 0
 Reacts w event out e =
     (acts : List Action)
     × (answers : List (Event × List Action))
-    × (mid : SessionState)
-    × Goes w.session event acts mid
+    × (mid : KeptSession)
+    × Steps w.session w.now event acts mid
     × Acts (stands w mid w.seat) (acts ++ asked answers) answers out e
 
 -- the session refuses the event; or receives it, and what it asks for is performed up to an error
 abbrev pub Halts : ShardsState → Worker → Event → EngineError → List ℕ → SessionState → SeatState → Type 0
 Halts shards w event error out e seat =
-    (IsRefused w.session event error × (out ≡ []) × (ended e ≡ ended w.session) × (seat ≡ w.seat))
+    (IsRefused w.session.session event error × (out ≡ []) × (ended e ≡ ended w.session.session) × (seat ≡ w.seat))
     ⊎ ((acts : List Action)
     × (answers : List (Event × List Action))
-    × (mid : SessionState)
-    × Goes w.session event acts mid
+    × (mid : KeptSession)
+    × Steps w.session w.now event acts mid
     × Stops shards (stands w mid w.seat) (acts ++ asked answers) error answers out e seat)
 
 -- ---- a whole turn
@@ -65,8 +65,8 @@ abbrev pub Idles : Worker → Event → Worker → Type 0
 Idles w event e =
     (acts : List Action)
     × (answers : List (Event × List Action))
-    × (mid : SessionState)
-    × Goes w.session event acts mid
+    × (mid : KeptSession)
+    × Steps w.session w.now event acts mid
     × (list_all is_push acts ≡ true)
     × Acts (stands w mid w.seat) acts answers [] e
     × (asked answers ≡ [])
@@ -77,18 +77,18 @@ Receives w None out e = (out ≡ []) × (e ≡ w)
 Receives w (Some event) out e = Reacts w event out e
 
 abbrev pub HaltsAt : ShardsState → Worker → Option Event → EngineError → List ℕ → SessionState → SeatState → Type 0
-HaltsAt shards w None error out e seat = IsUnread error × (out ≡ []) × (ended e ≡ ended w.session) × (seat ≡ w.seat)
+HaltsAt shards w None error out e seat = IsUnread error × (out ≡ []) × (ended e ≡ ended w.session.session) × (seat ≡ w.seat)
 HaltsAt shards w (Some event) error out e seat = Halts shards w event error out e seat
 
 -- A turn gives the session its first event and leaves the reader alone; or that event leaves nothing to do, and the
 -- turn then reads and gives the session the event of that read, if any.
 abbrev pub TakesTurn : Type 0 → Worker → Option Event → List ℕ → Worker → Type 0
 TakesTurn untouched w received out e =
-    (untouched × (received ≡ None) × Reacts w (first_event (state_of w.session.phase)) out e)
-    ⊎ ((mid : Worker) × Idles w (first_event (state_of w.session.phase)) mid × Receives mid received out e)
+    (untouched × (received ≡ None) × Reacts w (first_event (state_of w.session.session.phase)) out e)
+    ⊎ ((mid : Worker) × Idles w (first_event (state_of w.session.session.phase)) mid × Receives mid received out e)
 
 -- the same, up to an error
 abbrev pub StopsTurn : ShardsState → Type 0 → Worker → Option Event → EngineError → List ℕ → SessionState → SeatState → Type 0
 StopsTurn shards untouched w received error out e seat =
-    (untouched × (received ≡ None) × Halts shards w (first_event (state_of w.session.phase)) error out e seat)
-    ⊎ ((mid : Worker) × Idles w (first_event (state_of w.session.phase)) mid × HaltsAt shards mid received error out e seat)
+    (untouched × (received ≡ None) × Halts shards w (first_event (state_of w.session.session.phase)) error out e seat)
+    ⊎ ((mid : Worker) × Idles w (first_event (state_of w.session.session.phase)) mid × HaltsAt shards mid received error out e seat)

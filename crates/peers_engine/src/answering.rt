@@ -4,6 +4,7 @@ ghost use Rattle.std.specs.Prelude.{◌≡◌, ◌≢◌, ◌++◌, IfErr, List,
 ghost use Rattle.session_core.specs.declared.action.Action.{Action};
 ghost use Rattle.session_core.specs.declared.event.Event.{Event};
 ghost use Rattle.session_core.specs.declared.state.State.TheVariants as states;
+ghost use Rattle.session_core.specs.Keeping.{is_staying};
 ghost use Rattle.session_core.specs.Sessions.{state_of};
 ghost use Rattle.peers_engine.specs.Acting.{DoesNotGoOn, IsGiven, asked};
 
@@ -19,9 +20,10 @@ pub(crate) fn give_answer(
     answer: Event,
     given: &mut Vec<Action>,
 ) -> Result<(), EngineError>
-    ensures given { OnOk result ((steps : List (Event × List Action)) × IsGiven session.old (Some answer) steps session.new
+    ensures manner { is_staying session.new.manner ≡ is_staying session.old.manner }
+    ensures given { OnOk result ((steps : List (Event × List Action)) × IsGiven session.old now (Some answer) steps session.new
         × (given.new.items ≡ given.old.items ++ asked steps)) }
-    ensures stuck { IfErr result (λ e. (state_of session.old.phase ≢ states.Ended) × DoesNotGoOn session.old answer e session.new) }
+    ensures stuck { IfErr result (λ e. (state_of session.old.session.phase ≢ states.Ended) × DoesNotGoOn session.old now answer e session.new) }
 {
     if session.state() == State::Ended {
         return Ok(());

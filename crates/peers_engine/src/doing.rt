@@ -1,6 +1,6 @@
 //! Performing a session's actions.
 
-ghost use Rattle.std.specs.Prelude.{◌≡◌, ◌≢◌, ◌∷◌, ◌++◌, [], IfErr, IfOk, OnErr, OnOk, List, ℕ};
+ghost use Rattle.std.specs.Prelude.{◌≡◌, ◌≢◌, ◌∷◌, ◌++◌, [], IfErr, IfOk, OnErr, OnOk, Bool, List, ℕ};
 ghost use Rattle.std.specs.Io.KnownBytes.{Appends};
 ghost use Rattle.table_types.specs.Batches.{IsBatchFor};
 ghost use Rattle.known_state.specs.Known.{KnownState};
@@ -9,10 +9,10 @@ ghost use Rattle.session_core.specs.declared.action.Action.TheVariants as action
 ghost use Rattle.session_core.specs.declared.event.Event.{Event};
 ghost use Rattle.session_core.specs.declared.event.Event.TheVariants as events;
 ghost use Rattle.peers_engine.specs.declared.errors.EngineError.TheVariants as errors;
+ghost use Rattle.session_core.specs.Keeping.{is_staying};
 ghost use Rattle.session_core.specs.Sessions.{SessionState};
 ghost use Rattle.peers_engine.specs.Acting.{Acts, Stops, asked, worker};
-ghost use Rattle.table_cell.specs.Histories.{CellState};
-ghost use Rattle.peers_engine.specs.Calls.{IsCopied, IsSettled, IsUncopied};
+ghost use Rattle.peers_engine.specs.Calls.{IsCopied, IsSettled, IsUncopied, moment_at};
 ghost use Rattle.teach_writer.specs.Lessons.{IsShortestLesson};
 ghost use Rattle.teach_writer.specs.Pieces.{bytes_left};
 ghost use Rattle.peers_engine.specs.Doing.{Fails, Falls, IsRefusal, error_text};
@@ -55,19 +55,20 @@ pub(crate) fn part<W: Write + Faults>(output: &mut W, kind: ErrorKind) -> Result
     }
 }
 
-/// Copies a batch and, if there is one, stops at the gate.
+/// Copies a batch and, if there is one, stops at the gate. `stays` says which moment the copy has (`moment_at`).
 pub fn copy_batch<H: Wait, G: Gate>(
     context: &Context<H, G>,
     seat: &mut Seat,
     table: u64,
     kind: CopyKind,
+    stays: bool,
 ) -> Result<Event, EngineError>
     ensures seat { seat.new.number ≡ seat.old.number }
-    ensures answer { IfOk result (IsCopied context.now.number context.now.moment seat.old table kind seat.new) }
-    ensures refused { IfErr result (IsRefusal (IsUncopied context.now.shards.now (λ c. context.now.moment) context.now.number seat.old table kind seat.new)) }
+    ensures answer { IfOk result (IsCopied stays context.now.number context.now.moment seat.old table kind seat.new) }
+    ensures refused { IfErr result (IsRefusal (IsUncopied context.now.shards.now (moment_at stays context.now.moment) context.now.number seat.old table kind seat.new)) }
     ensures stays { OnErr result (seat.new ≡ seat.old) }
 {
-    let copied = copy(context, seat, table, kind)?;
+    let copied = copy(context, seat, table, kind, stays)?;
     if let Event::Copied(_, _) = &copied {
         context.gate.at(context.rt, Stage::Copied);
     }
@@ -106,8 +107,8 @@ pub(crate) fn teach_batch<H: Wait, G: Gate, W: Write + Faults>(
     ensures seat { seat.new.number ≡ seat.old.number }
     ensures taught { IfOk result (λ event. (out : List ℕ) × (after : KnownState) × IsShortestLesson known.now batch.now out after
         × (event ≡ events.Written after) × IsSettled context.now.number seat.old batch.now seat.new × Appends (W.contents output.old) (W.contents output.new) out) }
-    ensures failed { (session : SessionState) (at : CellState → ℕ) → session.known ≡ known.now
-        → IfErr result (λ e. (out : List ℕ) × Fails context.now.shards.now at context.now.number context.now.moment session seat.old (actions.Teach batch.now) e out seat.new
+    ensures failed { (stays : Bool) (session : SessionState) → session.known ≡ known.now
+        → IfErr result (λ e. (out : List ℕ) × Fails context.now.shards.now stays context.now.number context.now.moment session seat.old (actions.Teach batch.now) e out seat.new
         × Appends (W.contents output.old) (W.contents output.new) out) }
     ensures unread { IfErr result (λ e. e ≢ errors.Read) }
 {
@@ -123,15 +124,14 @@ pub(crate) fn teach_batch<H: Wait, G: Gate, W: Write + Faults>(
     Ok(Event::Written(after))
 }
 
-/// Performs one action of a session, gives the session its answer, if it has one, and appends what the session then asks
-/// for.
+/// Performs one action of a session, gives the session its answer, if it has one, and appends what the session then asks for.
 ///
 /// Fails with `Write` if not all of its bytes are written, and leaves the seat as the action does. Fails with `Memory`
 /// or `Strange` before any are if the action can't be done; the seat is then as it was, but for the receipt of the close
 /// if a table was closed and not opened anew. Fails with `Memory` in the middle of a lesson if memory runs out for its next
 /// bytes; the seat is then as the lesson leaves it. If the session refuses the answer, or memory runs out for what the
 /// answer asks for, the action was done, and the seat is as the action leaves it.
-pub(crate) fn do_action<H: Wait, G: Gate, W: Write + Faults>(
+pub(crate) fn act<H: Wait, G: Gate, W: Write + Faults>(
     context: &Context<H, G>,
     session: &mut Session,
     output: &mut W,
@@ -140,18 +140,20 @@ pub(crate) fn do_action<H: Wait, G: Gate, W: Write + Faults>(
     given: &mut Vec<Action>,
 ) -> Result<(), EngineError>
     ensures seat { seat.new.number ≡ seat.old.number }
+    ensures manner { is_staying session.new.manner ≡ is_staying session.old.manner }
     ensures done { OnOk result ((answers : List (Event × List Action)) × (out : List ℕ)
         × Acts (worker session.old seat.old context.now.number context.now.moment) (action ∷ []) answers out (worker session.new seat.new context.now.number context.now.moment)
         × (given.new.items ≡ given.old.items ++ asked answers)
         × Appends (W.contents output.old) (W.contents output.new) out) }
     ensures failed { IfErr result (λ e. (answers : List (Event × List Action)) × (out : List ℕ)
-        × Stops context.now.shards.now (worker session.old seat.old context.now.number context.now.moment) (action ∷ []) e answers out session.new seat.new
+        × Stops context.now.shards.now (worker session.old seat.old context.now.number context.now.moment) (action ∷ []) e answers out session.new.session seat.new
         × Appends (W.contents output.old) (W.contents output.new) out) }
     ensures unread { IfErr result (λ e. e ≢ errors.Read) }
 {
+    let stays = session.stays();
     match action {
         Action::Send(bytes) => send(output, bytes.as_slice()),
-        Action::Learn(update) => learn(context, seat, update),
+        Action::Learn(update) => learn(context, seat, update, stays),
         Action::Reopen(table) => reopen(context, seat, table, opened_with(session.version())),
         Action::Part(kind) => part(output, kind),
         Action::Close => Ok(()),
@@ -160,7 +162,7 @@ pub(crate) fn do_action<H: Wait, G: Gate, W: Write + Faults>(
             give_answer(session, context.moment, answer, given)
         }
         Action::Copy { table, kind } => {
-            let answer = copy_batch(context, seat, table, kind)?;
+            let answer = copy_batch(context, seat, table, kind, stays)?;
             give_answer(session, context.moment, answer, given)
         }
         Action::Teach(batch) => {

@@ -27,8 +27,7 @@ pub enum EngineError {
     #[error("memory")]
     Memory,
     /// A table refused a call for a reason that can't be passed on to the session; or the table doesn't exist, the seat
-    /// has seen more events than the table has, or the batch isn't the session's latest one or doesn't fit its roster. Or a
-    /// session that stays asked for an error message after its turn's last answers.
+    /// has seen more events than the table has, or the batch isn't the session's latest one or doesn't fit its roster.
     #[error("the tables and the session do not agree")]
     Strange,
 }

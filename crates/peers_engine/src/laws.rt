@@ -1,6 +1,6 @@
 //! Laws of the definitions, whatever the program does.
 
-ghost use Rattle.std.specs.Prelude.{ℕ, Err};
+ghost use Rattle.std.specs.Prelude.{ℕ, true, Err};
 ghost use Rattle.table_types.specs.declared.copies.CopyKind.{CopyKind};
 ghost use Rattle.table_types.specs.declared.update.Update.{Update};
 ghost use Rattle.table_cell.specs.Histories.{CellState};
@@ -8,13 +8,13 @@ ghost use Rattle.table_cell.specs.declared.errors.CopyError.TheVariants as copy_
 ghost use Rattle.table_cell.specs.declared.errors.LearnError.TheVariants as learn_errors;
 ghost use Rattle.table_shards.specs.Receipts.{SeatState};
 ghost use Rattle.table_shards.specs.declared.errors.ShardError.TheVariants as errors;
-ghost use Rattle.peers_engine.specs.Calls.{CallsCopyOn, CallsLearnOn, late};
+ghost use Rattle.peers_engine.specs.Calls.{CallsCopyOn, CallsLearnOn, moment_at};
 
 /// A session that stays is never late: no table refuses to learn a row or to copy a batch with `MomentBack`, since the call comes at
 /// the turn's moment, or at the table's latest one if that is later. So `Strange` of such a session never has that cause.
 pub fn no_late_call_comes_too_early()
     ensures learn { (c : CellState) (n now : ℕ) (s t : SeatState) (u : Update) →
-        CallsLearnOn c n (late now c) s u (Err (errors.Cell learn_errors.MomentBack)) t → ⊥ }
+        CallsLearnOn c n (moment_at true now c) s u (Err (errors.Cell learn_errors.MomentBack)) t → ⊥ }
     ensures copy { (c : CellState) (n now : ℕ) (s t : SeatState) (table : ℕ) (kind : CopyKind) →
-        CallsCopyOn c n (late now c) s table kind (Err (errors.Cell copy_errors.MomentBack)) t → ⊥ }
+        CallsCopyOn c n (moment_at true now c) s table kind (Err (errors.Cell copy_errors.MomentBack)) t → ⊥ }
 {}

@@ -2,7 +2,7 @@
 //! answer that makes no event and lets the turn go on.
 
 ghost use Rattle.std.specs.Prelude.{◌≡◌, ◌⊎◌, ℕ, IfErr, IfOk, OnErr, OnOk, Ok};
-ghost use Rattle.peers_engine.specs.Calls.{CallsClose, CallsOpen, IsBarred, IsCopied, IsCopiedLate, IsCopiedOn, IsLearned, IsLearnedLate, IsLearnedOn, IsMissing, IsReopened, IsSettled, IsSoundTable, IsTaken, IsUncopied, IsUnlearned, IsUnopened, IsUnsettled, IsUntaken, RefusesClose, RefusesCopyOn, RefusesLearnOn, RefusesOpen, ack_end, close_end, copy_end, late, learn_end, open_end, opened_with, settle_end};
+ghost use Rattle.peers_engine.specs.Calls.{CallsClose, CallsOpen, IsBarred, IsCopied, IsCopiedOn, IsLearned, IsLearnedOn, IsMissing, IsReopened, IsSettled, IsSoundTable, IsTaken, IsUncopied, IsUnlearned, IsUnopened, IsUnsettled, IsUntaken, RefusesClose, RefusesCopyOn, RefusesLearnOn, RefusesOpen, ack_end, close_end, copy_end, learn_end, moment_at, open_end, opened_with, settle_end};
 ghost use Rattle.peers_engine.specs.Doing.{IsRefusal};
 
 use crate::context::Context;
@@ -105,15 +105,16 @@ fn open_end(opened: Result<(), ShardError<OpenError>>) -> Result<(), EngineError
     }
 }
 
-/// Returns the turn's moment, or the table's latest one if that is later, so that the table doesn't refuse a call for its moment.
-fn late<H, G>(context: &Context<H, G>, locked: &Locked) -> Moment
-    ensures { result ≡ late context.now.moment locked.now }
+/// Returns the moment of a call on a table: the turn's; or, for a session that `stays`, the table's latest one if that is later, so that
+/// the table doesn't refuse the call for its moment.
+fn moment_at<H, G>(context: &Context<H, G>, locked: &Locked, stays: bool) -> Moment
+    ensures { result ≡ moment_at stays context.now.moment locked.now }
 {
     let latest = locked.cell().latest();
-    if latest.milliseconds() < context.moment.milliseconds() {
-        context.moment
-    } else {
+    if stays && context.moment.milliseconds() <= latest.milliseconds() {
         latest
+    } else {
+        context.moment
     }
 }
 
@@ -135,36 +136,21 @@ fn learn_at(
     learn_end(noted::learn(locked, seat, table, number, update, now))
 }
 
-/// Learns an update. A full table skips it.
+/// Learns an update; a full table skips it. `stays` says which moment the call has (`moment_at`).
 pub(crate) fn learn<H: Wait, G>(
     context: &Context<H, G>,
     seat: &mut Seat,
     update: Update,
+    stays: bool,
 ) -> Result<(), EngineError>
     ensures seat { seat.new.number ≡ seat.old.number }
-    ensures learned { OnOk result (IsLearned context.now.number context.now.moment seat.old update seat.new) }
-    ensures refused { IfErr result (IsRefusal (IsUnlearned context.now.shards.now (λ c. context.now.moment) context.now.number seat.old update seat.new)) }
+    ensures learned { OnOk result (IsLearned stays context.now.number context.now.moment seat.old update seat.new) }
+    ensures refused { IfErr result (IsRefusal (IsUnlearned context.now.shards.now (moment_at stays context.now.moment) context.now.number seat.old update seat.new)) }
     ensures stays { OnErr result (seat.new ≡ seat.old) }
 {
     let mut guard = lock(context, update.table)?;
     let locked: &mut Locked = &mut guard;
-    learn_at(locked, context.number, seat, update, context.moment)
-}
-
-/// Learns an update, at the turn's moment or the table's latest. A full table skips it.
-pub(crate) fn learn_late<H: Wait, G>(
-    context: &Context<H, G>,
-    seat: &mut Seat,
-    update: Update,
-) -> Result<(), EngineError>
-    ensures seat { seat.new.number ≡ seat.old.number }
-    ensures learned { OnOk result (IsLearnedLate context.now.number context.now.moment seat.old update seat.new) }
-    ensures refused { IfErr result (IsRefusal (IsUnlearned context.now.shards.now (late context.now.moment) context.now.number seat.old update seat.new)) }
-    ensures stays { OnErr result (seat.new ≡ seat.old) }
-{
-    let mut guard = lock(context, update.table)?;
-    let locked: &mut Locked = &mut guard;
-    let now = late(context, locked);
+    let now = moment_at(context, locked, stays);
     learn_at(locked, context.number, seat, update, now)
 }
 
@@ -210,38 +196,22 @@ fn copy_at(
     )
 }
 
-/// Copies a batch.
+/// Copies a batch. `stays` says which moment the call has (`moment_at`).
 pub(crate) fn copy<H: Wait, G>(
     context: &Context<H, G>,
     seat: &mut Seat,
     table: u64,
     kind: CopyKind,
+    stays: bool,
 ) -> Result<Event, EngineError>
     ensures seat { seat.new.number ≡ seat.old.number }
-    ensures answer { IfOk result (IsCopied context.now.number context.now.moment seat.old table kind seat.new) }
-    ensures refused { IfErr result (IsRefusal (IsUncopied context.now.shards.now (λ c. context.now.moment) context.now.number seat.old table kind seat.new)) }
+    ensures answer { IfOk result (IsCopied stays context.now.number context.now.moment seat.old table kind seat.new) }
+    ensures refused { IfErr result (IsRefusal (IsUncopied context.now.shards.now (moment_at stays context.now.moment) context.now.number seat.old table kind seat.new)) }
     ensures stays { OnErr result (seat.new ≡ seat.old) }
 {
     let mut guard = lock(context, table)?;
     let locked: &mut Locked = &mut guard;
-    copy_at(locked, context.number, seat, table, kind, context.moment)
-}
-
-/// Copies a batch, at the turn's moment or the table's latest.
-pub(crate) fn copy_late<H: Wait, G>(
-    context: &Context<H, G>,
-    seat: &mut Seat,
-    table: u64,
-    kind: CopyKind,
-) -> Result<Event, EngineError>
-    ensures seat { seat.new.number ≡ seat.old.number }
-    ensures answer { IfOk result (IsCopiedLate context.now.number context.now.moment seat.old table kind seat.new) }
-    ensures refused { IfErr result (IsRefusal (IsUncopied context.now.shards.now (late context.now.moment) context.now.number seat.old table kind seat.new)) }
-    ensures stays { OnErr result (seat.new ≡ seat.old) }
-{
-    let mut guard = lock(context, table)?;
-    let locked: &mut Locked = &mut guard;
-    let now = late(context, locked);
+    let now = moment_at(context, locked, stays);
     copy_at(locked, context.number, seat, table, kind, now)
 }
 

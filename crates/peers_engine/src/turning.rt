@@ -1,6 +1,6 @@
-//! Turns of a session.
+//! Turns and ticks of a session.
 
-ghost use Rattle.std.specs.Prelude.{◌≡◌, ◌≢◌, ◌↔◌, [], ℕ, true, List, Option, Ok, Err, IfErr, IfOk, OnErr, OnOk};
+ghost use Rattle.std.specs.Prelude.{◌≡◌, ◌≢◌, ◌↔◌, [], true, Ok, Err, IfErr, IfOk, List, OnErr, OnOk, Option, ℕ};
 ghost use Rattle.std.specs.List.{list_all};
 ghost use Rattle.std.specs.Io.KnownBytes.{Appends, Consumes, IsAtEnd};
 ghost use Rattle.peers_devices.specs.Failures.{Rose};
@@ -8,27 +8,33 @@ ghost use Rattle.session_core.specs.declared.action.Action.{Action};
 ghost use Rattle.session_core.specs.declared.error.SessionError.{SessionError};
 ghost use Rattle.session_core.specs.declared.error.SessionError.TheVariants as refusals;
 ghost use Rattle.session_core.specs.declared.event.Event.{Event};
+ghost use Rattle.session_core.specs.declared.event.Event.TheVariants as events;
 ghost use Rattle.session_core.specs.declared.state.State.TheVariants as states;
+ghost use Rattle.session_core.specs.Keeping.{IsTicked, is_staying};
 ghost use Rattle.session_core.specs.Sessions.{Refuses, ended, state_of};
 ghost use Rattle.peers_engine.specs.declared.errors.EngineError.TheVariants as errors;
+ghost use Rattle.peers_engine.specs.declared.outcome.Outcome.TheVariants as outcomes;
 ghost use Rattle.peers_engine.specs.declared.turned.Turned.TheVariants as turns;
 ghost use Rattle.peers_engine.specs.Acting.{Acts, Stops, asked, worker};
 ghost use Rattle.peers_engine.specs.Reading.{IsRead};
+ghost use Rattle.peers_engine.specs.Ticks.{AreReopened, FailsToReopen, StopsTick, TakesTick};
 ghost use Rattle.peers_engine.specs.Turns.{Breaks, Halts, HaltsAt, Receives, Idles, Reacts, StopsTurn, TakesTurn, Turns, first_event, is_push};
 
 use crate::context::Context;
-use crate::doing::do_action;
+use crate::doing::act;
 use crate::errors::EngineError;
 use crate::gate::Gate;
+use crate::outcome::Outcome;
 use crate::reading::read_event;
+use crate::tables::{opened_with, reopen};
 use crate::turned::Turned;
 use peers_devices::Faults;
-use session_core::{Action, Event, Session, State};
+use session_core::{Action, Event, Session, State, Ticked};
 use std::alloc::Global;
 use std::io::{Read, Write};
 use std::sync::Wait;
 use table_shards::{Seat, Shards};
-use table_types::{CopyKind, Moment};
+use table_types::{CopyKind, Moment, Version};
 
 /// Returns the event with which a turn begins.
 pub(crate) fn first_event(state: State) -> Event
@@ -49,17 +55,18 @@ fn do_all<H: Wait, G: Gate, W: Write + Faults>(
     actions: Vec<Action>,
 ) -> Result<Vec<Action>, EngineError>
     ensures seat { seat.new.number ≡ seat.old.number }
+    ensures manner { is_staying session.new.manner ≡ is_staying session.old.manner }
     ensures done { IfOk result (λ given. (answers : List (Event × List Action)) × (out : List ℕ)
         × Acts (worker session.old seat.old context.now.number context.now.moment) actions.items answers out (worker session.new seat.new context.now.number context.now.moment) × (given.items ≡ asked answers)
         × Appends (W.contents output.old) (W.contents output.new) out) }
     ensures failed { IfErr result (λ e. (answers : List (Event × List Action)) × (out : List ℕ)
-        × Stops context.now.shards.now (worker session.old seat.old context.now.number context.now.moment) actions.items e answers out session.new seat.new
+        × Stops context.now.shards.now (worker session.old seat.old context.now.number context.now.moment) actions.items e answers out session.new.session seat.new
         × Appends (W.contents output.old) (W.contents output.new) out) }
     ensures unread { IfErr result (λ e. e ≢ errors.Read) }
 {
     let mut given = Vec::new(context.alloc);
     for action in actions {
-        do_action(context, session, output, seat, action, &mut given)?;
+        act(context, session, output, seat, action, &mut given)?;
     }
     Ok(given)
 }
@@ -77,9 +84,11 @@ pub(crate) fn are_pushes(actions: &[Action]) -> bool
     ))
 }
 
-/// Gives the session an event, performs what it asks for, and then what it asks for when it receives the answers.
-/// Returns whether there was nothing to do: no action, or only copies of this node's own rows from tables that had
-/// nothing to teach.
+/// Gives the session an event, performs what it asks for, and then what it asks for when it receives the answers, and so on.
+/// Returns whether there was nothing to do: no action, or only copies of this node's own rows from tables that had nothing to teach.
+///
+/// A copy's answer asks for a lesson at most, the end of a lesson for an acknowledgement to be passed on, and its answer for nothing
+/// that has one. So nothing is left to do after the fourth list of actions.
 fn react<H: Wait, G: Gate, W: Write + Faults>(
     context: &Context<H, G>,
     session: &mut Session,
@@ -88,24 +97,27 @@ fn react<H: Wait, G: Gate, W: Write + Faults>(
     event: Event,
 ) -> Result<bool, EngineError>
     ensures seat { seat.new.number ≡ seat.old.number }
+    ensures manner { is_staying session.new.manner ≡ is_staying session.old.manner }
     ensures done { OnOk result ((out : List ℕ) × Reacts (worker session.old seat.old context.now.number context.now.moment) event out (worker session.new seat.new context.now.number context.now.moment)
         × Appends (W.contents output.old) (W.contents output.new) out) }
-    ensures failed { IfErr result (λ e. (out : List ℕ) × Halts context.now.shards.now (worker session.old seat.old context.now.number context.now.moment) event e out session.new seat.new
+    ensures failed { IfErr result (λ e. (out : List ℕ) × Halts context.now.shards.now (worker session.old seat.old context.now.number context.now.moment) event e out session.new.session seat.new
         × Appends (W.contents output.old) (W.contents output.new) out) }
     ensures unread { IfErr result (λ e. e ≢ errors.Read) }
     ensures idle { result ≡ Ok true → Idles (worker session.old seat.old context.now.number context.now.moment) event (worker session.new seat.new context.now.number context.now.moment) × Appends (W.contents output.old) (W.contents output.new) [] }
-    ensures refused { (e : SessionError) → e ≢ refusals.Memory → Refuses session.old.phase event e
+    ensures refused { (e : SessionError) → e ≢ refusals.Memory → Refuses session.old.session.phase event e
         → (result ≡ Err (errors.Session e)) × (output.new ≡ output.old) }
 {
-    let actions = session.on(event, context.moment)?;
-    let may_idle = are_pushes(actions.as_slice());
-    let next = do_all(context, session, output, seat, actions)?;
-    let is_idle = may_idle && next.is_empty();
-    do_all(context, session, output, seat, next)?;
+    let first = session.on(event, context.moment)?;
+    let may_idle = are_pushes(first.as_slice());
+    let second = do_all(context, session, output, seat, first)?;
+    let is_idle = may_idle && second.is_empty();
+    let third = do_all(context, session, output, seat, second)?;
+    let fourth = do_all(context, session, output, seat, third)?;
+    do_all(context, session, output, seat, fourth)?;
     Ok(is_idle)
 }
 
-/// Reads once, and reacts to what was read. Returns whether there was nothing to do.
+/// Reads once, and reacts to what was read. Returns whether nothing was read.
 fn receive<H: Wait, G: Gate, R: Read + Faults, W: Write + Faults>(
     context: &Context<H, G>,
     session: &mut Session,
@@ -114,24 +126,30 @@ fn receive<H: Wait, G: Gate, R: Read + Faults, W: Write + Faults>(
     seat: &mut Seat,
 ) -> Result<bool, EngineError>
     ensures seat { seat.new.number ≡ seat.old.number }
+    ensures manner { is_staying session.new.manner ≡ is_staying session.old.manner }
     ensures done { OnOk result ((received : Option Event) × (read out : List ℕ) × IsRead (IsAtEnd (R.remaining input.new)) received read
         × Receives (worker session.old seat.old context.now.number context.now.moment) received out (worker session.new seat.new context.now.number context.now.moment)
         × Consumes (R.remaining input.old) (R.remaining input.new) read
         × Appends (W.contents output.old) (W.contents output.new) out) }
+    ensures nothing { result ≡ Ok true → Consumes (R.remaining input.old) (R.remaining input.new) []
+        × (session.new ≡ session.old) × (seat.new ≡ seat.old) × (output.new ≡ output.old) }
     ensures failed { IfErr result (λ e. (received : Option Event) × (read out : List ℕ) × IsRead (IsAtEnd (R.remaining input.new)) received read
-        × HaltsAt context.now.shards.now (worker session.old seat.old context.now.number context.now.moment) received e out session.new seat.new
+        × HaltsAt context.now.shards.now (worker session.old seat.old context.now.number context.now.moment) received e out session.new.session seat.new
         × Consumes (R.remaining input.old) (R.remaining input.new) read
         × Appends (W.contents output.old) (W.contents output.new) out) }
     ensures read { result ≡ Err errors.Read → Rose (R.failed input.old) (R.failed input.new) }
 {
     match read_event(context.alloc, input)? {
-        Some(event) => react(context, session, output, seat, event),
+        Some(event) => {
+            react(context, session, output, seat, event)?;
+            Ok(false)
+        }
         None => Ok(true),
     }
 }
 
-/// Takes a turn, but leaves it to the caller to end the session after an error. Returns whether there was nothing to
-/// do.
+/// Takes a turn, but leaves it to the caller to end the session after an error. Returns whether there was nothing to do and nothing
+/// to read.
 fn take_turn<H: Wait, G: Gate, R: Read + Faults, W: Write + Faults>(
     context: &Context<H, G>,
     session: &mut Session,
@@ -140,16 +158,19 @@ fn take_turn<H: Wait, G: Gate, R: Read + Faults, W: Write + Faults>(
     seat: &mut Seat,
 ) -> Result<bool, EngineError>
     ensures seat { seat.new.number ≡ seat.old.number }
+    ensures manner { is_staying session.new.manner ≡ is_staying session.old.manner }
     ensures done { OnOk result ((received : Option Event) × (read out : List ℕ) × IsRead (IsAtEnd (R.remaining input.new)) received read
         × TakesTurn (input.new ≡ input.old) (worker session.old seat.old context.now.number context.now.moment) received out (worker session.new seat.new context.now.number context.now.moment)
         × Consumes (R.remaining input.old) (R.remaining input.new) read
         × Appends (W.contents output.old) (W.contents output.new) out) }
+    ensures idle { result ≡ Ok true → Idles (worker session.old seat.old context.now.number context.now.moment) (first_event (state_of session.old.session.phase)) (worker session.new seat.new context.now.number context.now.moment)
+        × Consumes (R.remaining input.old) (R.remaining input.new) [] × Appends (W.contents output.old) (W.contents output.new) [] }
     ensures failed { IfErr result (λ e. (received : Option Event) × (read out : List ℕ) × IsRead (IsAtEnd (R.remaining input.new)) received read
-        × StopsTurn context.now.shards.now (input.new ≡ input.old) (worker session.old seat.old context.now.number context.now.moment) received e out session.new seat.new
+        × StopsTurn context.now.shards.now (input.new ≡ input.old) (worker session.old seat.old context.now.number context.now.moment) received e out session.new.session seat.new
         × Consumes (R.remaining input.old) (R.remaining input.new) read
         × Appends (W.contents output.old) (W.contents output.new) out) }
     ensures read { result ≡ Err errors.Read → Rose (R.failed input.old) (R.failed input.new) }
-    ensures refused { (e : SessionError) → e ≢ refusals.Memory → Refuses session.old.phase (first_event (state_of session.old.phase)) e
+    ensures refused { (e : SessionError) → e ≢ refusals.Memory → Refuses session.old.session.phase (first_event (state_of session.old.session.phase)) e
         → (result ≡ Err (errors.Session e)) × (input.new ≡ input.old) × (output.new ≡ output.old) }
 {
     let event = first_event(session.state());
@@ -160,9 +181,59 @@ fn take_turn<H: Wait, G: Gate, R: Read + Faults, W: Write + Faults>(
     }
 }
 
+/// Closes the session in the tables and opens it anew, with this version, in order.
+fn reopen_all<H: Wait, G>(
+    context: &Context<H, G>,
+    seat: &mut Seat,
+    tables: &[u64],
+    version: Version,
+) -> Result<(), EngineError>
+    ensures seat { seat.new.number ≡ seat.old.number }
+    ensures reopened { OnOk result (AreReopened context.now.number version seat.old tables.now seat.new) }
+    ensures left { IfErr result (λ e. FailsToReopen context.now.shards.now context.now.number version seat.old tables.now e seat.new) }
+    ensures unread { IfErr result (λ e. e ≢ errors.Read) }
+{
+    for table in tables {
+        reopen(context, seat, *table, version)?;
+    }
+    Ok(())
+}
+
+/// Takes a tick, but leaves it to the caller to end the session after an error. Returns whether there was nothing to do. A tick
+/// asks for nothing that has an answer, so nothing is left to do after that.
+fn take_tick<H: Wait, G: Gate, W: Write + Faults>(
+    context: &Context<H, G>,
+    session: &mut Session,
+    output: &mut W,
+    seat: &mut Seat,
+) -> Result<bool, EngineError>
+    ensures seat { seat.new.number ≡ seat.old.number }
+    ensures manner { is_staying session.new.manner ≡ is_staying session.old.manner }
+    ensures done { OnOk result ((out : List ℕ) × TakesTick (worker session.old seat.old context.now.number context.now.moment) out (worker session.new seat.new context.now.number context.now.moment)
+        × Appends (W.contents output.old) (W.contents output.new) out) }
+    ensures failed { IfErr result (λ e. (out : List ℕ) × StopsTick context.now.shards.now (worker session.old seat.old context.now.number context.now.moment) e out session.new.session seat.new
+        × Appends (W.contents output.old) (W.contents output.new) out) }
+    ensures unread { IfErr result (λ e. e ≢ errors.Read) }
+    ensures idle { result ≡ Ok true → IsTicked session.old context.now.moment [] [] session.new × (seat.new ≡ seat.old) × Appends (W.contents output.old) (W.contents output.new) [] }
+    ensures refused { (e : SessionError) → e ≢ refusals.Memory → Refuses session.old.session.phase events.Turn e
+        → (result ≡ Err (errors.Session e)) × (output.new ≡ output.old) }
+{
+    let Ticked { left, actions } = session.tick(context.moment)?;
+    let is_idle = left.is_empty() && actions.is_empty();
+    reopen_all(
+        context,
+        seat,
+        left.as_slice(),
+        opened_with(session.version()),
+    )?;
+    do_all(context, session, output, seat, actions)?;
+    Ok(is_idle)
+}
+
 /// Ends the session after an error.
 fn end<H, G>(context: &Context<H, G>, session: &mut Session, error: EngineError)
-    ensures { session.new ≡ ended session.old }
+    ensures ended { session.new.session ≡ ended session.old.session }
+    ensures manner { is_staying session.new.manner ≡ is_staying session.old.manner }
 {
     let event = match error {
         EngineError::Read => Event::ReadFault,
@@ -172,14 +243,17 @@ fn end<H, G>(context: &Context<H, G>, session: &mut Session, error: EngineError)
     let _closing = session.on(event, context.moment);
 }
 
-/// Returns the outcome of a turn without an error.
-fn outcome(session: &Session) -> Turned
-    ensures { (result ≡ turns.Closed) ↔ (state_of session.now.phase ≡ states.Ended) }
+/// Returns what a turn or a tick without an error came to, from whether there was nothing to do.
+fn outcome(session: &Session, is_idle: bool) -> Outcome
+    ensures closed { (result ≡ outcomes.Closed) ↔ (state_of session.now.session.phase ≡ states.Ended) }
+    ensures idled { result ≡ outcomes.Idled → is_idle ≡ true }
 {
     if session.state() == State::Ended {
-        Turned::Closed
+        Outcome::Closed
+    } else if is_idle {
+        Outcome::Idled
     } else {
-        Turned::Going
+        Outcome::Worked
     }
 }
 
@@ -190,28 +264,63 @@ pub(crate) fn turn_and_end<H: Wait, G: Gate, R: Read + Faults, W: Write + Faults
     input: &mut R,
     output: &mut W,
     seat: &mut Seat,
-) -> Result<Turned, EngineError>
-    ensures run { OnOk result (Turns session.old session.new) }
-    ensures closed { IfOk result (λ turned. (turned ≡ turns.Closed) ↔ (state_of session.new.phase ≡ states.Ended)) }
-    ensures broken { OnErr result (Breaks session.old session.new) }
-    ensures ended { OnErr result (state_of session.new.phase ≡ states.Ended) }
+) -> Result<Outcome, EngineError>
+    ensures run { OnOk result (Turns context.now.moment session.old session.new) }
+    ensures closed { IfOk result (λ outcome. (outcome ≡ outcomes.Closed) ↔ (state_of session.new.session.phase ≡ states.Ended)) }
+    ensures idled { result ≡ Ok outcomes.Idled → Idles (worker session.old seat.old context.now.number context.now.moment) (first_event (state_of session.old.session.phase)) (worker session.new seat.new context.now.number context.now.moment)
+        × Consumes (R.remaining input.old) (R.remaining input.new) [] × Appends (W.contents output.old) (W.contents output.new) [] }
+    ensures broken { OnErr result (Breaks context.now.moment session.old session.new.session) }
+    ensures ended { OnErr result (state_of session.new.session.phase ≡ states.Ended) }
     ensures seat { seat.new.number ≡ seat.old.number }
+    ensures manner { is_staying session.new.manner ≡ is_staying session.old.manner }
     ensures written { OnOk result ((received : Option Event) × (read out : List ℕ) × IsRead (IsAtEnd (R.remaining input.new)) received read
         × TakesTurn (input.new ≡ input.old) (worker session.old seat.old context.now.number context.now.moment) received out (worker session.new seat.new context.now.number context.now.moment)
         × Consumes (R.remaining input.old) (R.remaining input.new) read
         × Appends (W.contents output.old) (W.contents output.new) out) }
     ensures stopped { IfErr result (λ e. (received : Option Event) × (read out : List ℕ) × IsRead (IsAtEnd (R.remaining input.new)) received read
-        × StopsTurn context.now.shards.now (input.new ≡ input.old) (worker session.old seat.old context.now.number context.now.moment) received e out session.new seat.new
+        × StopsTurn context.now.shards.now (input.new ≡ input.old) (worker session.old seat.old context.now.number context.now.moment) received e out session.new.session seat.new
         × Consumes (R.remaining input.old) (R.remaining input.new) read
         × Appends (W.contents output.old) (W.contents output.new) out) }
     ensures read { result ≡ Err errors.Read → Rose (R.failed input.old) (R.failed input.new) }
-    ensures refused { (e : SessionError) → e ≢ refusals.Memory → Refuses session.old.phase (first_event (state_of session.old.phase)) e
+    ensures refused { (e : SessionError) → e ≢ refusals.Memory → Refuses session.old.session.phase (first_event (state_of session.old.session.phase)) e
         → (result ≡ Err (errors.Session e)) × (input.new ≡ input.old) × (output.new ≡ output.old) }
-    ensures over { state_of session.old.phase ≡ states.Ended
+    ensures over { state_of session.old.session.phase ≡ states.Ended
         → (result ≡ Err (errors.Session refusals.Ended)) × (input.new ≡ input.old) × (output.new ≡ output.old) }
 {
     match take_turn(context, session, input, output, seat) {
-        Ok(_) => Ok(outcome(session)),
+        Ok(is_idle) => Ok(outcome(session, is_idle)),
+        Err(error) => {
+            end(context, session, error);
+            Err(error)
+        }
+    }
+}
+
+/// Takes a tick, and ends the session after an error.
+pub(crate) fn tick_and_end<H: Wait, G: Gate, W: Write + Faults>(
+    context: &Context<H, G>,
+    session: &mut Session,
+    output: &mut W,
+    seat: &mut Seat,
+) -> Result<Outcome, EngineError>
+    ensures ticked { OnOk result ((out : List ℕ) × TakesTick (worker session.old seat.old context.now.number context.now.moment) out (worker session.new seat.new context.now.number context.now.moment)
+        × Appends (W.contents output.old) (W.contents output.new) out) }
+    ensures closed { IfOk result (λ outcome. (outcome ≡ outcomes.Closed) ↔ (state_of session.new.session.phase ≡ states.Ended)) }
+    ensures idled { result ≡ Ok outcomes.Idled → IsTicked session.old context.now.moment [] [] session.new × (seat.new ≡ seat.old)
+        × Appends (W.contents output.old) (W.contents output.new) [] }
+    ensures ended { OnErr result (state_of session.new.session.phase ≡ states.Ended) }
+    ensures stopped { IfErr result (λ e. (out : List ℕ) × StopsTick context.now.shards.now (worker session.old seat.old context.now.number context.now.moment) e out session.new.session seat.new
+        × Appends (W.contents output.old) (W.contents output.new) out) }
+    ensures unread { IfErr result (λ e. e ≢ errors.Read) }
+    ensures refused { (e : SessionError) → e ≢ refusals.Memory → Refuses session.old.session.phase events.Turn e
+        → (result ≡ Err (errors.Session e)) × (output.new ≡ output.old) }
+    ensures over { state_of session.old.session.phase ≡ states.Ended
+        → (result ≡ Err (errors.Session refusals.Ended)) × (output.new ≡ output.old) }
+    ensures seat { seat.new.number ≡ seat.old.number }
+    ensures manner { is_staying session.new.manner ≡ is_staying session.old.manner }
+{
+    match take_tick(context, session, output, seat) {
+        Ok(is_idle) => Ok(outcome(session, is_idle)),
         Err(error) => {
             end(context, session, error);
             Err(error)
@@ -247,23 +356,24 @@ pub fn turn<H: Wait, R: Read + Faults, W: Write + Faults, G: Gate>(
     number: u32,
     now: Moment,
 ) -> (Seat, Result<Turned, EngineError>)
-    ensures run { OnOk result.1 (Turns session.old session.new) }
-    ensures closed { IfOk result.1 (λ turned. (turned ≡ turns.Closed) ↔ (state_of session.new.phase ≡ states.Ended)) }
-    ensures broken { OnErr result.1 (Breaks session.old session.new) }
-    ensures ended { OnErr result.1 (state_of session.new.phase ≡ states.Ended) }
+    ensures run { OnOk result.1 (Turns now session.old session.new) }
+    ensures closed { IfOk result.1 (λ turned. (turned ≡ turns.Closed) ↔ (state_of session.new.session.phase ≡ states.Ended)) }
+    ensures broken { OnErr result.1 (Breaks now session.old session.new.session) }
+    ensures ended { OnErr result.1 (state_of session.new.session.phase ≡ states.Ended) }
     ensures seat { result.0.number ≡ seat.number }
+    ensures manner { is_staying session.new.manner ≡ is_staying session.old.manner }
     ensures written { OnOk result.1 ((received : Option Event) × (read out : List ℕ) × IsRead (IsAtEnd (R.remaining input.new)) received read
         × TakesTurn (input.new ≡ input.old) (worker session.old seat number now) received out (worker session.new result.0 number now)
         × Consumes (R.remaining input.old) (R.remaining input.new) read
         × Appends (W.contents output.old) (W.contents output.new) out) }
     ensures stopped { IfErr result.1 (λ e. (received : Option Event) × (read out : List ℕ) × IsRead (IsAtEnd (R.remaining input.new)) received read
-        × StopsTurn shards.now (input.new ≡ input.old) (worker session.old seat number now) received e out session.new result.0
+        × StopsTurn shards.now (input.new ≡ input.old) (worker session.old seat number now) received e out session.new.session result.0
         × Consumes (R.remaining input.old) (R.remaining input.new) read
         × Appends (W.contents output.old) (W.contents output.new) out) }
     ensures read { result.1 ≡ Err errors.Read → Rose (R.failed input.old) (R.failed input.new) }
-    ensures refused { (e : SessionError) → e ≢ refusals.Memory → Refuses session.old.phase (first_event (state_of session.old.phase)) e
+    ensures refused { (e : SessionError) → e ≢ refusals.Memory → Refuses session.old.session.phase (first_event (state_of session.old.session.phase)) e
         → (result.1 ≡ Err (errors.Session e)) × (input.new ≡ input.old) × (output.new ≡ output.old) }
-    ensures over { state_of session.old.phase ≡ states.Ended
+    ensures over { state_of session.old.session.phase ≡ states.Ended
         → (result.1 ≡ Err (errors.Session refusals.Ended)) × (input.new ≡ input.old) × (output.new ≡ output.old) }
 {
     let context = Context {
@@ -274,6 +384,8 @@ pub fn turn<H: Wait, R: Read + Faults, W: Write + Faults, G: Gate>(
         number,
         moment: now,
     };
-    let done = turn_and_end(&context, session, input, output, &mut seat);
-    (seat, done)
+    match turn_and_end(&context, session, input, output, &mut seat) {
+        Ok(outcome) => (seat, Ok(outcome.turned())),
+        Err(error) => (seat, Err(error)),
+    }
 }

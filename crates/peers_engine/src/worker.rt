@@ -1,31 +1,41 @@
 //! A session at work.
 
-ghost use Rattle.std.specs.Prelude.{◌≡◌, ◌≢◌, ◌↔◌, ℕ, List, Option, Err, IfErr, IfOk, OnErr, OnOk};
+ghost use Rattle.std.specs.Prelude.{◌≡◌, ◌≢◌, ◌↔◌, [], ℕ, List, Ok, Option, Err, IfErr, IfOk, OnErr, OnOk};
 ghost use Rattle.std.specs.Io.KnownBytes.{Appends, Consumes, IsAtEnd};
 ghost use Rattle.peers_devices.specs.Failures.{Rose};
+ghost use Rattle.peers_msg.specs.declared.control.Control.TheVariants as controls;
 ghost use Rattle.session_core.specs.declared.error.SessionError.{SessionError};
 ghost use Rattle.session_core.specs.declared.error.SessionError.TheVariants as refusals;
 ghost use Rattle.session_core.specs.declared.event.Event.{Event};
+ghost use Rattle.session_core.specs.declared.event.Event.TheVariants as events;
 ghost use Rattle.session_core.specs.declared.state.State.TheVariants as states;
-ghost use Rattle.session_core.specs.Sessions.{Refuses, state_of};
+ghost use Rattle.session_core.specs.Actions.{control_text};
+ghost use Rattle.session_core.specs.Keeping.{IsTicked, is_staying};
+ghost use Rattle.session_core.specs.Sessions.{Refuses, ended, state_of};
 ghost use Rattle.peers_engine.specs.declared.errors.EngineError.TheVariants as errors;
-ghost use Rattle.peers_engine.specs.declared.turned.Turned.TheVariants as turns;
+ghost use Rattle.peers_engine.specs.declared.outcome.Outcome.TheVariants as outcomes;
 ghost use Rattle.peers_engine.specs.Acting.{worker};
+ghost use Rattle.peers_engine.specs.Doing.{Falls};
 ghost use Rattle.peers_engine.specs.Reading.{IsRead};
-ghost use Rattle.peers_engine.specs.Turns.{Breaks, StopsTurn, TakesTurn, Turns, first_event};
+ghost use Rattle.peers_engine.specs.Ticks.{StopsTick, TakesTick, after_request, can_request, request_text};
+ghost use Rattle.peers_engine.specs.Turns.{Breaks, Idles, StopsTurn, TakesTurn, Turns, first_event};
 
 use crate::context::Context;
+use crate::doing::send;
 use crate::errors::EngineError;
-use crate::gate::Gate;
-use crate::turned::Turned;
-use crate::turning::turn_and_end;
+use crate::gate::{AlwaysOpen, Gate};
+use crate::outcome::Outcome;
+use crate::turning::{tick_and_end, turn_and_end};
 use peers_devices::Faults;
-use session_core::Session;
+use session_core::{Event, Session, State};
 use std::alloc::Global;
 use std::io::{Read, Write};
 use std::sync::Wait;
 use table_shards::{Seat, Shards};
 use table_types::Moment;
+
+/// The bytes of a resync request.
+const RESYNC_REQUEST_BYTES: [u8; 2] = [0, 0];
 
 /// A session at work: the session, the seat from which it calls the tables, and its number in them.
 #[derive(Drop)]
@@ -41,6 +51,8 @@ pub struct Worker {
 impl Worker {
     /// Takes one turn of the session, as the function `turn` does for one whose parts stand alone. The seat keeps the
     /// receipts of what the turn did, after an error too.
+    ///
+    /// Each learn and each copy comes at `now`; for a session that stays it comes at the table's latest moment if that is later.
     pub fn turn<H: Wait, R: Read + Faults, W: Write + Faults, G: Gate>(
         &mut self,
         rt: &H,
@@ -50,25 +62,29 @@ impl Worker {
         gate: &G,
         shards: &Shards,
         now: Moment,
-    ) -> Result<Turned, EngineError>
-        ensures run { OnOk result (Turns self.old.session self.new.session) }
-        ensures closed { IfOk result (λ turned. (turned ≡ turns.Closed) ↔ (state_of self.new.session.phase ≡ states.Ended)) }
-        ensures broken { OnErr result (Breaks self.old.session self.new.session) }
-        ensures ended { OnErr result (state_of self.new.session.phase ≡ states.Ended) }
+    ) -> Result<Outcome, EngineError>
+        ensures run { OnOk result (Turns now self.old.session self.new.session) }
+        ensures closed { IfOk result (λ outcome. (outcome ≡ outcomes.Closed) ↔ (state_of self.new.session.session.phase ≡ states.Ended)) }
+        ensures idled { result ≡ Ok outcomes.Idled
+            → Idles (worker self.old.session self.old.seat self.old.number now) (first_event (state_of self.old.session.session.phase)) (worker self.new.session self.new.seat self.new.number now)
+            × Consumes (R.remaining input.old) (R.remaining input.new) [] × Appends (W.contents output.old) (W.contents output.new) [] }
+        ensures broken { OnErr result (Breaks now self.old.session self.new.session.session) }
+        ensures ended { OnErr result (state_of self.new.session.session.phase ≡ states.Ended) }
         ensures seat { self.new.seat.number ≡ self.old.seat.number }
         ensures number { self.new.number ≡ self.old.number }
+        ensures manner { is_staying self.new.session.manner ≡ is_staying self.old.session.manner }
         ensures written { OnOk result ((received : Option Event) × (read out : List ℕ) × IsRead (IsAtEnd (R.remaining input.new)) received read
             × TakesTurn (input.new ≡ input.old) (worker self.old.session self.old.seat self.old.number now) received out (worker self.new.session self.new.seat self.new.number now)
             × Consumes (R.remaining input.old) (R.remaining input.new) read
             × Appends (W.contents output.old) (W.contents output.new) out) }
         ensures stopped { IfErr result (λ e. (received : Option Event) × (read out : List ℕ) × IsRead (IsAtEnd (R.remaining input.new)) received read
-            × StopsTurn shards.now (input.new ≡ input.old) (worker self.old.session self.old.seat self.old.number now) received e out self.new.session self.new.seat
+            × StopsTurn shards.now (input.new ≡ input.old) (worker self.old.session self.old.seat self.old.number now) received e out self.new.session.session self.new.seat
             × Consumes (R.remaining input.old) (R.remaining input.new) read
             × Appends (W.contents output.old) (W.contents output.new) out) }
         ensures read { result ≡ Err errors.Read → Rose (R.failed input.old) (R.failed input.new) }
-        ensures refused { (e : SessionError) → e ≢ refusals.Memory → Refuses self.old.session.phase (first_event (state_of self.old.session.phase)) e
+        ensures refused { (e : SessionError) → e ≢ refusals.Memory → Refuses self.old.session.session.phase (first_event (state_of self.old.session.session.phase)) e
             → (result ≡ Err (errors.Session e)) × (input.new ≡ input.old) × (output.new ≡ output.old) }
-        ensures over { state_of self.old.session.phase ≡ states.Ended
+        ensures over { state_of self.old.session.session.phase ≡ states.Ended
             → (result ≡ Err (errors.Session refusals.Ended)) × (input.new ≡ input.old) × (output.new ≡ output.old) }
     {
         let context = Context {
@@ -80,5 +96,75 @@ impl Worker {
             moment: now,
         };
         turn_and_end(&context, &mut self.session, input, output, &mut self.seat)
+    }
+
+    /// Takes a tick of the session: reopens the session in the tables that it leaves, and performs what it asks for. Doesn't read.
+    /// After an error the session is over, as after one of a turn.
+    pub fn tick<H: Wait, W: Write + Faults>(
+        &mut self,
+        rt: &H,
+        alloc: Global,
+        output: &mut W,
+        shards: &Shards,
+        now: Moment,
+    ) -> Result<Outcome, EngineError>
+        ensures ticked { OnOk result ((out : List ℕ) × TakesTick (worker self.old.session self.old.seat self.old.number now) out (worker self.new.session self.new.seat self.new.number now)
+            × Appends (W.contents output.old) (W.contents output.new) out) }
+        ensures closed { IfOk result (λ outcome. (outcome ≡ outcomes.Closed) ↔ (state_of self.new.session.session.phase ≡ states.Ended)) }
+        ensures idled { result ≡ Ok outcomes.Idled → IsTicked self.old.session now [] [] self.new.session × (self.new.seat ≡ self.old.seat)
+            × Appends (W.contents output.old) (W.contents output.new) [] }
+        ensures ended { OnErr result (state_of self.new.session.session.phase ≡ states.Ended) }
+        ensures stopped { IfErr result (λ e. (out : List ℕ) × StopsTick shards.now (worker self.old.session self.old.seat self.old.number now) e out self.new.session.session self.new.seat
+            × Appends (W.contents output.old) (W.contents output.new) out) }
+        ensures unread { IfErr result (λ e. e ≢ errors.Read) }
+        ensures refused { (e : SessionError) → e ≢ refusals.Memory → Refuses self.old.session.session.phase events.Turn e
+            → (result ≡ Err (errors.Session e)) × (output.new ≡ output.old) }
+        ensures over { state_of self.old.session.session.phase ≡ states.Ended
+            → (result ≡ Err (errors.Session refusals.Ended)) × (output.new ≡ output.old) }
+        ensures seat { self.new.seat.number ≡ self.old.seat.number }
+        ensures number { self.new.number ≡ self.old.number }
+        ensures manner { is_staying self.new.session.manner ≡ is_staying self.old.session.manner }
+    {
+        let context = Context {
+            rt,
+            alloc,
+            gate: &AlwaysOpen,
+            shards,
+            number: self.number,
+            moment: now,
+        };
+        tick_and_end(&context, &mut self.session, output, &mut self.seat)
+    }
+
+    /// Requests a resync if the session is open, and returns whether it did: no other session has anything to request. After
+    /// an error, which is a write, the session is over.
+    pub fn request<W: Write + Faults>(
+        &mut self,
+        output: &mut W,
+        now: Moment,
+    ) -> Result<bool, EngineError>
+        ensures requested { IfOk result (λ done. done ≡ can_request (state_of self.old.session.session.phase)) }
+        ensures written { IfOk result (λ done. Appends (W.contents output.old) (W.contents output.new) (request_text done)) }
+        ensures session { IfOk result (λ done. self.new.session ≡ after_request done now self.old.session) }
+        ensures ended { OnErr result (state_of self.new.session.session.phase ≡ states.Ended) }
+        ensures stopped { IfErr result (λ e. Falls (control_text controls.ResyncRequest) e (W.contents output.old) (W.contents output.new)
+            × (self.new.session.session ≡ ended self.old.session.session)) }
+        ensures seat { self.new.seat ≡ self.old.seat }
+        ensures number { self.new.number ≡ self.old.number }
+        ensures manner { is_staying self.new.session.manner ≡ is_staying self.old.session.manner }
+    {
+        if !matches!(self.session.state(), State::Ready | State::Teaching) {
+            return Ok(false);
+        }
+        match send(output, &RESYNC_REQUEST_BYTES) {
+            Ok(()) => {
+                self.session.note_sent(now);
+                Ok(true)
+            }
+            Err(error) => {
+                let _closing = self.session.on(Event::WriteFault, now);
+                Err(error)
+            }
+        }
     }
 }

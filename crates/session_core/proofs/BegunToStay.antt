@@ -45,7 +45,7 @@ use Rattle.session_core.specs.Sessions.{SessionState, going, Concludes, Receives
 use Rattle.session_core.specs.Runs.{IsBegun}
 use Rattle.session_core.specs.Paces.{Pace, has_passed, push_time, is_rested, inferred, awaits_names}
 use Rattle.session_core.specs.Standing.{StandingState, is_open, is_reopen, changed, finished_if, finishing, Does, task_at, TakesTurn, Writes, Stands, without_tables, leaving, TicksIn, caught_up_in}
-use Rattle.session_core.specs.StandingRuns.{Happening, At, Tick, CatchUp, Happens, Lasts, BeginsToStay}
+use Rattle.session_core.specs.StandingRuns.{Happening, At, Tick, Ask, CatchUp, Happens, Lasts, BeginsToStay}
 use Rattle.session_core.proofs.StandingTimes.{begins_rested}
 
 -- ---- the beginning
@@ -408,6 +408,7 @@ stays_caught left phases.Ended stays = tt
 pub stays_happens : (one : Happening) (s e : StandingState) → StaysOn s.session.phase → Happens s one e → StaysOn e.session.phase
 stays_happens (At now event acts) s e stays stands = (rare_stands event s e now acts stays stands).0
 stays_happens (Tick now left acts) s e stays (asked, ticks) = stays_ticks _ s.session.phase s e now left acts refl stays ticks
+stays_happens (Ask now) s e stays sent = subst (λ (x : StandingState). StaysOn x.session.phase) (sym sent) stays
 stays_happens CatchUp s e stays caught = subst (λ (x : StandingState). StaysOn x.session.phase) (sym caught) (stays_caught s.pace.left s.session.phase stays)
 
 -- ---- runs

@@ -43,7 +43,7 @@ use Rattle.session_core.specs.Courses.{Course, course_fed, is_held, teaching_ane
 use Rattle.session_core.specs.Sessions.{SessionState, going, Concludes, ReceivesBytes, first_word, IsWelcomed, Connects, Accepts, Greets, GoesIn, GoesNew, GoesHello, GoesOpen, Turns, HasNothing, FinishesResync, StartsPendingResync, Settles, opening, speaking}
 use Rattle.session_core.specs.Paces.{inferred}
 use Rattle.session_core.specs.Standing.{StandingState, changed, shared, finished_if, finishing, begun_resync, Does, task_at, TakesTurn, Writes, Stands, without_tables, leaving, heartbeats, TicksIn, caught_up_in}
-use Rattle.session_core.specs.StandingRuns.{Happening, At, Tick, CatchUp, Happens, Lasts, acts_of, leaves, was_left}
+use Rattle.session_core.specs.StandingRuns.{Happening, At, Tick, Ask, CatchUp, Happens, Lasts, acts_of, leaves, was_left}
 use Rattle.session_core.specs.StandingSteps.{is_about}
 use Rattle.session_core.proofs.ShareLemmas.{true_or_false}
 
@@ -421,6 +421,7 @@ past_caught t left phases.Ended none = refl
 past_happens : (t : ℕ) (one : Happening) (s e : StandingState) → lists t (shared s.session.phase) ≡ false → Happens s one e → GoesPast t (acts_of one) e.session
 past_happens t (At now event acts) s e none stands = past_stands t event s e now acts none stands
 past_happens t (Tick now left acts) s e none (asked, ticks) = past_ticks t _ s.session.phase s e now left acts refl none ticks
+past_happens t (Ask now) s e none sent = (refl, ap (λ (x : StandingState). lists t (shared x.session.phase)) sent ∙ none)
 past_happens t CatchUp s e none caught =
     (refl, ap (λ (x : StandingState). lists t (shared x.session.phase)) caught ∙ past_caught t s.pace.left s.session.phase none)
 
@@ -445,6 +446,7 @@ left_ticks t false phases.Ended s e now left acts is (leaves, acted, same) = non
 left_happens : (t : ℕ) (one : Happening) (s e : StandingState) → leaves t one ≡ true → Happens s one e → lists t (shared e.session.phase) ≡ false
 left_happens t (At now event acts) s e is stands = absurd (false≢true is)
 left_happens t (Tick now left acts) s e is (asked, ticks) = left_ticks t _ s.session.phase s e now left acts is ticks
+left_happens t (Ask now) s e is sent = absurd (false≢true is)
 left_happens t CatchUp s e is caught = absurd (false≢true is)
 
 -- it stays unshared

@@ -29,6 +29,8 @@ mod StaysOut
 mod ReopensApart
 pub mod OnlyTurnsCopy
 mod StandingOnce
+mod StandingExactly
+pub mod KeepingLaws
 mod SomeStand
 mod TakenHoweverCut
 mod AnswersInOrder

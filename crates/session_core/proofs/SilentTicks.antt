@@ -2,7 +2,7 @@
 use Rattle.std.proofs.Common.{◌≡◌, ℕ, Bool, true, Ok, Err, Result, IfOk, sym, subst}
 use Rattle.session_core.specs.declared.error.SessionError.{SessionError}
 use Rattle.session_core.specs.declared.event.Event.TheVariants as events
-use Rattle.session_core.specs.declared.stay.Ticked.{Ticked}
+use Rattle.session_core.specs.declared.ticked.Ticked.{Ticked}
 use Rattle.session_core.specs.Sessions.{is_asked}
 use Rattle.session_core.specs.Paces.{has_passed, silence_time}
 use Rattle.session_core.specs.Standing.{StandingState, TicksIn, Ticks}

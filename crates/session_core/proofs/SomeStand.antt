@@ -21,7 +21,7 @@ use Rattle.session_core.specs.Sessions.{SessionState, GoesOpen, going, ended, is
 use Rattle.session_core.specs.Runs.{HoldsBytes, BringsBytes}
 use Rattle.session_core.specs.Paces.{has_passed, heartbeat_time, silence_time, renewed, inferred, is_ahead, noted, copied_in, last_number, tables_to_leave}
 use Rattle.session_core.specs.Standing.{StandingState, is_send, paced, HandsOn, changed, finished_if, finishing, begun_resync, Does, task_at, TakesTurn, Writes, answer_of_refusal, Stands, without_tables, leaving, heartbeats, forgetting, any_left, TicksIn, Ticks, caught_up_in}
-use Rattle.session_core.specs.StandingRuns.{Happening, At, Tick, CatchUp, Happens, Lasts, BeginsToStay}
+use Rattle.session_core.specs.StandingRuns.{Happening, At, Tick, Ask, CatchUp, Happens, Lasts, BeginsToStay}
 use Rattle.session_core.specs.StandingSteps.{HearsBytes}
 use Rattle.session_core.proofs.BegunToStay.{begun_in}
 use Rattle.session_core.proofs.BytesStay.{step_holds}
@@ -107,6 +107,7 @@ holds_caught left phases.Ended holds = tt
 holds_happens : (one : Happening) (s e : StandingState) → HoldsBytes s.session.phase → HearsBytes one → Happens s one e → HoldsBytes e.session.phase
 holds_happens (At now event acts) s e holds hears stands = holds_stands event s e now acts holds hears stands
 holds_happens (Tick now left acts) s e holds hears (asked, ticks) = holds_ticks _ s.session.phase s e now left acts refl holds ticks
+holds_happens (Ask now) s e holds hears sent = subst (λ (x : StandingState). HoldsBytes x.session.phase) (sym sent) holds
 holds_happens CatchUp s e holds hears caught = subst (λ (x : StandingState). HoldsBytes x.session.phase) (sym caught) (holds_caught s.pace.left s.session.phase holds)
 
 holds_lasts : (steps : List Happening) (s e : StandingState) → HoldsBytes s.session.phase → AllByRecursion HearsBytes steps → Lasts s steps e → HoldsBytes e.session.phase

@@ -26,7 +26,7 @@ use Rattle.session_core.specs.Courses.{Course, table_to_ask, ack_received, ackno
 use Rattle.session_core.specs.Sessions.{SessionState, GoesIn, GoesNew, GoesHello, GoesOpen, Turns, HasNothing, FinishesResync, StartsPendingResync, Settles}
 use Rattle.session_core.specs.Paces.{Pace, progress_of, with_copy, copied_in, last_number, with_ack, acknowledged_in, ack_in, noted_one, noted, is_number, inferred, is_ahead}
 use Rattle.session_core.specs.Standing.{StandingState, finished_if, finishing, begun_resync, Does, task_at, TakesTurn, Writes, answer_of_refusal, Stands, TicksIn}
-use Rattle.session_core.specs.StandingRuns.{Happening, At, Tick, CatchUp, Happens, Lasts, BeginsToStay, is_ack_of, acknowledges, brings_ack, was_acknowledged}
+use Rattle.session_core.specs.StandingRuns.{Happening, At, Tick, Ask, CatchUp, Happens, Lasts, BeginsToStay, is_ack_of, acknowledges, brings_ack, was_acknowledged}
 
 -- ---- what was noted was received
 
@@ -352,6 +352,7 @@ ticks_real false phases.Ended steps s e now left acts real (leaves, is, same) = 
 happens_real : (one : Happening) (steps : List Happening) (s e : StandingState) → AreReal steps s.pace.progress → Happens s one e → AreReal (steps ++ (one ∷ [])) e.pace.progress
 happens_real (At now event acts) steps s e real stands = stands_real event steps s e now acts real stands
 happens_real (Tick now left acts) steps s e real (asked, ticks) = ticks_real _ s.session.phase steps s e now left acts real ticks
+happens_real (Ask now) steps s e real sent = still_real steps (Ask now) s.pace.progress e.pace.progress (ap (λ (x : StandingState). x.pace.progress) sent) real
 happens_real CatchUp steps s e real caught = still_real steps CatchUp s.pace.progress e.pace.progress (ap (λ (x : StandingState). x.pace.progress) caught) real
 
 -- ---- runs

@@ -40,7 +40,7 @@ use Rattle.session_core.specs.Sessions.{SessionState, is_asked, Concludes, Recei
 use Rattle.session_core.specs.Runs.{ends_resync, IsLeft, HasNothingLeft, HasNothingOut}
 use Rattle.session_core.specs.Paces.{inferred, is_ahead}
 use Rattle.session_core.specs.Standing.{StandingState, changed, finished_if, begun_resync, Does, task_at, TakesTurn, Writes, answer_of_refusal, Stands, without_tables, leaving, heartbeats, TicksIn, caught_up_in}
-use Rattle.session_core.specs.StandingRuns.{Happening, At, Tick, CatchUp, Happens, Lasts, BeginsToStay, acts_of, handed, leaves, was_left}
+use Rattle.session_core.specs.StandingRuns.{Happening, At, Tick, Ask, CatchUp, Happens, Lasts, BeginsToStay, acts_of, handed, leaves, was_left}
 use Rattle.session_core.proofs.BegunToStay.{begun_in}
 use Rattle.session_core.proofs.ShareLemmas.{shares_in, ids_of, never, none_out, each_quiet, shares_begin}
 use Rattle.session_core.proofs.EndLemmas.{is_plain, plain_append, plain_all, plain_acks, plain_ready, plain_status, plain_reopens, plain_word}
@@ -434,6 +434,7 @@ abbrev pub rest_after : List Definition → List Happening → List Definition
 rest_after ds [] = ds
 rest_after ds (At now event acts ∷ steps) = rest_after ds steps
 rest_after ds (Tick now left acts ∷ steps) = rest_after (staying left ds) steps
+rest_after ds (Ask now ∷ steps) = rest_after ds steps
 rest_after ds (CatchUp ∷ steps) = rest_after ds steps
 
 pub lasts_kept : (steps : List Happening) (ds : List Definition) (before : List (Event × List Action)) (s e : StandingState) → IsKeptIn true (ids_of ds) before s.session.phase → Lasts s steps e → IsKeptIn true (ids_of (rest_after ds steps)) (before ++ handed steps) e.session.phase
@@ -445,6 +446,8 @@ lasts_kept (At now event acts ∷ steps) ds before s e kept (mid, stands, lasts)
     (lasts_kept steps ds (with_step before event acts) mid e (kept_stands (ids_of ds) before event s mid now acts kept stands) lasts)
 lasts_kept (Tick now left acts ∷ steps) ds before s e kept (mid, (asked, ticks), lasts) =
     lasts_kept steps (staying left ds) before mid e (kept_ticks ds before _ s.session.phase s mid now left acts refl asked kept ticks) lasts
+lasts_kept (Ask now ∷ steps) ds before s e kept (mid, sent, lasts) =
+    lasts_kept steps ds before mid e (subst (λ (x : StandingState). IsKeptIn true (ids_of ds) before x.session.phase) (sym sent) kept) lasts
 lasts_kept (CatchUp ∷ steps) ds before s e kept (mid, caught, lasts) =
     lasts_kept steps ds before mid e (subst (λ (x : StandingState). IsKeptIn true (ids_of ds) before x.session.phase) (sym caught) (kept_caught (ids_of ds) before s.pace.left s.session.phase kept)) lasts
 
@@ -452,24 +455,28 @@ rest_and_at : (steps : List Happening) (ds : List Definition) (now : ℕ) (event
 rest_and_at [] ds now event acts = refl
 rest_and_at (At n given done ∷ steps) ds now event acts = rest_and_at steps ds now event acts
 rest_and_at (Tick n left done ∷ steps) ds now event acts = rest_and_at steps (staying left ds) now event acts
+rest_and_at (Ask n ∷ steps) ds now event acts = rest_and_at steps ds now event acts
 rest_and_at (CatchUp ∷ steps) ds now event acts = rest_and_at steps ds now event acts
 
 rest_and_tick : (steps : List Happening) (ds : List Definition) (now : ℕ) (left : List ℕ) (acts : List Action) → rest_after ds (steps ++ (Tick now left acts ∷ [])) ≡ staying left (rest_after ds steps)
 rest_and_tick [] ds now left acts = refl
 rest_and_tick (At n given done ∷ steps) ds now left acts = rest_and_tick steps ds now left acts
 rest_and_tick (Tick n others done ∷ steps) ds now left acts = rest_and_tick steps (staying others ds) now left acts
+rest_and_tick (Ask n ∷ steps) ds now left acts = rest_and_tick steps ds now left acts
 rest_and_tick (CatchUp ∷ steps) ds now left acts = rest_and_tick steps ds now left acts
 
 handed_and_at : (steps : List Happening) (now : ℕ) (event : Event) (acts : List Action) → handed (steps ++ (At now event acts ∷ [])) ≡ with_step (handed steps) event acts
 handed_and_at [] now event acts = refl
 handed_and_at (At n given done ∷ steps) now event acts = ap (λ (xs : List (Event × List Action)). (given, done) ∷ xs) (handed_and_at steps now event acts)
 handed_and_at (Tick n left done ∷ steps) now event acts = handed_and_at steps now event acts
+handed_and_at (Ask n ∷ steps) now event acts = handed_and_at steps now event acts
 handed_and_at (CatchUp ∷ steps) now event acts = handed_and_at steps now event acts
 
 handed_and_tick : (steps : List Happening) (now : ℕ) (left : List ℕ) (acts : List Action) → handed (steps ++ (Tick now left acts ∷ [])) ≡ handed steps
 handed_and_tick [] now left acts = refl
 handed_and_tick (At n given done ∷ steps) now left acts = ap (λ (xs : List (Event × List Action)). (given, done) ∷ xs) (handed_and_tick steps now left acts)
 handed_and_tick (Tick n others done ∷ steps) now left acts = handed_and_tick steps now left acts
+handed_and_tick (Ask n ∷ steps) now left acts = handed_and_tick steps now left acts
 handed_and_tick (CatchUp ∷ steps) now left acts = handed_and_tick steps now left acts
 
 -- ---- each table is taught or was left
@@ -492,6 +499,10 @@ at_or : (P : ℕ → Type 0) (now : ℕ) (event : Event) (acts : List Action) (s
 at_or P now event acts steps [] all = tt
 at_or P now event acts steps (d ∷ ds) all = (all.0, at_or P now event acts steps ds all.1)
 
+ask_or : (P : ℕ → Type 0) (now : ℕ) (steps : List Happening) (ds : List Definition) → AllByRecursion (IsOr P steps) ds → AllByRecursion (IsOr P (Ask now ∷ steps)) ds
+ask_or P now steps [] all = tt
+ask_or P now steps (d ∷ ds) all = (all.0, ask_or P now steps ds all.1)
+
 catch_or : (P : ℕ → Type 0) (steps : List Happening) (ds : List Definition) → AllByRecursion (IsOr P steps) ds → AllByRecursion (IsOr P (CatchUp ∷ steps)) ds
 catch_or P steps [] all = tt
 catch_or P steps (d ∷ ds) all = (all.0, catch_or P steps ds all.1)
@@ -504,6 +515,7 @@ all_or : (P : ℕ → Type 0) (steps : List Happening) (ds : List Definition) �
 all_or P [] ds all = none_or P ds all
 all_or P (At now event acts ∷ steps) ds all = at_or P now event acts steps ds (all_or P steps ds all)
 all_or P (Tick now left acts ∷ steps) ds all = tick_or P now left acts steps ds (all_or P steps (staying left ds) all)
+all_or P (Ask now ∷ steps) ds all = ask_or P now steps ds (all_or P steps ds all)
 all_or P (CatchUp ∷ steps) ds all = catch_or P steps ds (all_or P steps ds all)
 
 -- ---- the law
@@ -521,6 +533,7 @@ end_happens (Tick now left acts) ds steps s e kept (asked, ticks) comes =
     subst (λ (xs : List Definition). IsTaught xs (handed (steps ++ (Tick now left acts ∷ []))) e.session) (sym (rest_and_tick steps ds now left acts))
     (subst (λ (hs : List (Event × List Action)). IsTaught (staying left (rest_after ds steps)) hs e.session) (sym (handed_and_tick steps now left acts))
     (end_ticks (rest_after ds steps) (handed steps) _ s.session.phase s e now left acts refl kept ticks comes))
+end_happens (Ask now) ds steps s e kept sent comes = absurd (false≢true comes)
 end_happens CatchUp ds steps s e kept caught comes = absurd (false≢true comes)
 
 pub ends_taught_or_left : (roster : List Definition) (begun s e : StandingState) (steps : List Happening) (one : Happening) → BeginsToStay roster begun → Lasts begun steps s → Happens s one e → ends_resync (acts_of one) ≡ true → HasNothingOut e.session × AllByRecursion (λ d. (was_left d.id (steps ++ (one ∷ [])) ≡ true) ⊎ HasNothingLeft kinds.Standing (handed (steps ++ (one ∷ []))) d.id) roster

@@ -41,7 +41,7 @@ use Rattle.session_core.specs.Sessions.{SessionState, going, Concludes, Receives
 use Rattle.session_core.specs.Runs.{is_end, ends_resync}
 use Rattle.session_core.specs.Paces.{Pace, inferred, is_ahead}
 use Rattle.session_core.specs.Standing.{StandingState, changed, finished_if, finishing, begun_resync, Does, task_at, TakesTurn, Writes, Stands, without_tables, leaving, any_left, heartbeats, TicksIn, caught_up_in, caught_up}
-use Rattle.session_core.specs.StandingRuns.{Happening, At, Tick, CatchUp, Happens, Lasts, BeginsToStay, acts_of, leaves_any, is_finish}
+use Rattle.session_core.specs.StandingRuns.{Happening, At, Tick, Ask, CatchUp, Happens, Lasts, BeginsToStay, acts_of, leaves_any, is_finish}
 use Rattle.session_core.proofs.EndLemmas.{plain_reopens}
 use Rattle.session_core.proofs.StandingEnds.{end_ack, endless_in, endless_refusal}
 
@@ -324,6 +324,7 @@ marked_caught was s e marked caught = λ so.
 marked_happens : (was : Bool) (one : Happening) (s e : StandingState) → IsMarked was s → Happens s one e → IsMarked (was || leaves_any one) e
 marked_happens was (At now event acts) s e marked stands = marked_at was now event acts s e marked stands
 marked_happens was (Tick now left acts) s e marked (asked, ticks) = marked_ticks was _ s.session.phase s e now left acts refl marked ticks
+marked_happens was (Ask now) s e marked sent = λ so. subst IsPartial (sym sent) (marked (sym (or_false was) ∙ so))
 marked_happens was CatchUp s e marked caught = marked_caught was s e marked caught
 
 or_assoc : (a b c : Bool) → ((a || b) || c) ≡ (a || (b || c))
@@ -447,6 +448,7 @@ partial_ticks false phases.Ended s e now left acts (leaves, is, same) = ap (list
 none_left_by : (was : Bool) (one : Happening) (s e : StandingState) → IsMarked was s → Happens s one e → list_any is_finish (acts_of one) ≡ true → (was || (leaves_any one || false)) ≡ false
 none_left_by was (Tick now left acts) s e marked (asked, ticks) finishes =
     absurd (false≢true (sym (partial_ticks _ s.session.phase s e now left acts ticks) ∙ finishes))
+none_left_by was (Ask now) s e marked sent finishes = absurd (false≢true finishes)
 none_left_by was CatchUp s e marked caught finishes = absurd (false≢true finishes)
 none_left_by false (At now event acts) s e marked stands finishes = refl
 none_left_by true (At now event acts) s e marked stands finishes =

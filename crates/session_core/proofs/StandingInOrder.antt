@@ -12,7 +12,7 @@ use Rattle.session_core.specs.Sessions.{Goes}
 use Rattle.session_core.specs.Paces.{is_ahead}
 use Rattle.session_core.specs.Runs.{HoldsBytes}
 use Rattle.session_core.specs.Standing.{HandsOn, StandingState, Stands, answer_of_refusal}
-use Rattle.session_core.specs.StandingRuns.{At, CatchUp, Happening, Tick, handed}
+use Rattle.session_core.specs.StandingRuns.{Ask, At, CatchUp, Happening, Tick, handed}
 use Rattle.session_core.specs.Cutting.{IsFedOut}
 use Rattle.session_core.specs.Hearing.{Hears, HearsInTime, asked_in, heard_in}
 use Rattle.session_core.proofs.HeardHoweverCut.{AreAlike, heard_however_cut}
@@ -25,6 +25,7 @@ received_as event = event
 abbrev step_of : Happening → Event × List Action
 step_of (At now event acts) = (received_as event, acts)
 step_of (Tick now left acts) = (events.Turn, [])
+step_of (Ask now) = (events.Turn, [])
 step_of CatchUp = (events.Turn, [])
 
 abbrev steps_of : List Happening → List (Event × List Action)
@@ -57,6 +58,7 @@ hears settles s e due left (At now (events.Copied table batch) acts ∷ steps) (
 hears settles s e due left (At now (events.Nothing table) acts ∷ steps) (mid, rest, stands, awaits, again) = absurd awaits
 hears settles s e due left (At now (events.Written known) acts ∷ steps) (mid, rest, stands, awaits, again) = absurd awaits
 hears settles s e due left (Tick now tables acts ∷ steps) (mid, rest, ticks, awaits, again) = absurd awaits
+hears settles s e due left (Ask now ∷ steps) (mid, rest, sent, awaits, again) = absurd awaits
 hears settles s e due left (CatchUp ∷ steps) (mid, rest, caught, awaits, again) = absurd awaits
 
 pub heard_in_time : (settles : ℕ → ℕ → Bool) (s e end : StandingState) (c : Course) (one other : Happening) (steps others : List Happening) (more rest : List ℕ) (left over : List (ℕ × ℕ))

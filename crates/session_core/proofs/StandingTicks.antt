@@ -14,7 +14,7 @@ use Rattle.session_core.specs.Courses.{Course}
 use Rattle.session_core.specs.Sessions.{SessionState, in_phase}
 use Rattle.session_core.specs.Paces.{Pace, renewed}
 use Rattle.session_core.specs.Standing.{StandingState, sends, is_send, HandsOn, Does, task_at, TakesTurn, Writes, Stands, TicksIn, Ticks}
-use Rattle.session_core.specs.StandingRuns.{Happening, At, Tick, CatchUp, Lasts, is_close, IsIdle, without_ticks, resent, IsSameButSent, beats}
+use Rattle.session_core.specs.StandingRuns.{Happening, At, Tick, Ask, CatchUp, Lasts, is_close, IsIdle, without_ticks, resent, IsSameButSent, beats}
 
 abbrev state_with : SessionState → Pace → StandingState
 state_with s p = record { session = s; pace = p }
@@ -97,6 +97,9 @@ run_again (Tick now left acts ∷ steps) s e x idle (mid, ticks, lasts) =
     let still = idle_tick s mid now acts (subst (λ (xs : List ℕ). Ticks s now xs acts mid) idle.0.0 ticks) idle.0.1 in
     let rest = run_again steps mid e x idle.1 lasts in
     (rest.0, subst (λ (t : StandingState). Lasts t (without_ticks steps) (resent rest.0 e)) (ap (resent x) still.0.1) rest.1)
+run_again (Ask now ∷ steps) s e x idle (mid, sent, lasts) =
+    let rest = run_again steps mid e now idle.1 lasts in
+    (rest.0, (resent now mid, ap (resent now) sent, rest.1))
 run_again (CatchUp ∷ steps) s e x idle (mid, caught, lasts) =
     let rest = run_again steps mid e x idle.1 lasts in
     (rest.0, (resent x mid, ap (resent x) caught, rest.1))

@@ -16,7 +16,7 @@ use Rattle.session_core.specs.Courses.{Course, table_to_ask}
 use Rattle.session_core.specs.Sessions.{SessionState}
 use Rattle.session_core.specs.Paces.{Pace, renewed, has_passed, heartbeat_time, silence_time, push_time, is_rested, awaits_names, is_ahead}
 use Rattle.session_core.specs.Standing.{StandingState, is_open, sends, is_send, HandsOn, Does, task_at, TakesTurn, Writes, answer_of_refusal, Stands, TicksIn, Ticks}
-use Rattle.session_core.specs.StandingRuns.{Happening, At, Tick, CatchUp, Happens, Lasts, is_heartbeat}
+use Rattle.session_core.specs.StandingRuns.{Happening, At, Tick, Ask, CatchUp, Happens, Lasts, is_heartbeat}
 use Rattle.session_core.specs.StandingSteps.{IsSince, SendsAt, sent_by}
 use Rattle.session_core.proofs.TickGives.{tick_beats_if}
 
@@ -77,6 +77,7 @@ sent_ticks false phases.Ended s e now left acts (leaves, is, same) = ap (λ (x :
 pub last_sent : (s e : StandingState) (one : Happening) → Happens s one e → e.pace.sent ≡ sent_by one s.pace.sent
 last_sent s e (At now event acts) stands = sent_stands event s e now acts stands
 last_sent s e (Tick now left acts) (asked, ticks) = sent_ticks _ s.session.phase s e now left acts ticks
+last_sent s e (Ask now) sent = ap (λ (x : StandingState). x.pace.sent) sent
 last_sent s e CatchUp caught = ap (λ (x : StandingState). x.pace.sent) caught
 
 -- ---- no heartbeat is owed after a tick
@@ -131,6 +132,7 @@ since_renewed false m now before then was = was
 since_one : (one : Happening) (m before : ℕ) → IsSince m one → m ≤ before → m ≤ sent_by one before
 since_one (At now event acts) m before since was = since_renewed (sends event acts) m now before since was
 since_one (Tick now left acts) m before since was = since_renewed (list_any is_send acts) m now before since was
+since_one (Ask now) m before since was = since
 since_one CatchUp m before since was = was
 
 -- since bytes were sent, they were last sent then or later
@@ -145,6 +147,7 @@ renewed_then b m now before is so = rw so (omega arith)
 sent_at_least : (one : Happening) (m before : ℕ) → SendsAt m one → m ≤ sent_by one before
 sent_at_least (At now event acts) m before (is, so) = renewed_then (sends event acts) m now before is so
 sent_at_least (Tick now left acts) m before (is, so) = renewed_then (list_any is_send acts) m now before is so
+sent_at_least (Ask now) m before is = omega (arith, is)
 sent_at_least CatchUp m before bad = absurd bad
 
 and_last : (a b c : Bool) → (a && (b && c)) ≡ true → c ≡ true
@@ -174,6 +177,7 @@ later_renewed false m sent now before then was = was
 later_one : (one : Happening) (m sent before : ℕ) → IsSince m one → IsSentBy sent m before → IsSentBy sent m (sent_by one before)
 later_one (At now event acts) m sent before since was = later_renewed (sends event acts) m sent now before since was
 later_one (Tick now left acts) m sent before since was = later_renewed (list_any is_send acts) m sent now before since was
+later_one (Ask now) m sent before since was = inr since
 later_one CatchUp m sent before since was = was
 
 later_lasts : (steps : List Happening) (s e : StandingState) (m sent : ℕ) → IsSentBy sent m s.pace.sent → AllByRecursion (IsSince m) steps → Lasts s steps e → IsSentBy sent m e.pace.sent
@@ -266,6 +270,7 @@ begun_or s e m now since was (inr (rested, is)) = subst (IsBegunSince m) (sym is
 begun_one : (one : Happening) (s e : StandingState) (m : ℕ) → IsSince m one → IsBegunSince m s.pace.reopened → Happens s one e → IsBegunSince m e.pace.reopened
 begun_one (At now event acts) s e m since was stands = begun_or s e m now since was (rested_stands event s e now acts stands)
 begun_one (Tick now left acts) s e m since was (asked, ticks) = subst (IsBegunSince m) (sym (ticks_reopened _ s.session.phase s e now left acts ticks)) was
+begun_one (Ask now) s e m since was sent = subst (IsBegunSince m) (sym (ap (λ (x : StandingState). x.pace.reopened) sent)) was
 begun_one CatchUp s e m since was caught = subst (IsBegunSince m) (sym (ap (λ (x : StandingState). x.pace.reopened) caught)) was
 
 pub begun_lasts : (steps : List Happening) (s e : StandingState) (m : ℕ) → IsBegunSince m s.pace.reopened → AllByRecursion (IsSince m) steps → Lasts s steps e → IsBegunSince m e.pace.reopened

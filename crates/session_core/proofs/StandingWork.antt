@@ -20,7 +20,7 @@ use Rattle.session_core.specs.Courses.{Course, teaching_anew, acknowledged, ack_
 use Rattle.session_core.specs.Sessions.{SessionState, going, GoesIn, GoesNew, GoesHello, GoesOpen, Turns, HasNothing, FinishesResync, StartsPendingResync, Settles}
 use Rattle.session_core.specs.Paces.{inferred}
 use Rattle.session_core.specs.Standing.{StandingState, changed, finished_if, finishing, Does, task_at, TakesTurn, Writes, Stands, without_tables, leaving, TicksIn, caught_up_in}
-use Rattle.session_core.specs.StandingRuns.{Happening, At, Tick, CatchUp, Happens, Lasts, BeginsToStay, HasWork}
+use Rattle.session_core.specs.StandingRuns.{Happening, At, Tick, Ask, CatchUp, Happens, Lasts, BeginsToStay, HasWork}
 use Rattle.session_core.proofs.BegunToStay.{begun_in, StaysOn, HearsOn, greeted, heard_open, never_starts, stays_ack, stays_happens, begun_stays}
 
 abbrev IsOrderlyCourse : Course → Type 0
@@ -195,6 +195,7 @@ orderly_caught left phases.Ended orderly = tt
 orderly_happens : (one : Happening) (s e : StandingState) → StaysOn s.session.phase → IsOrderly s.session.phase → Happens s one e → IsOrderly e.session.phase
 orderly_happens (At now event acts) s e stays orderly stands = orderly_stands event s e now acts stays orderly stands
 orderly_happens (Tick now left acts) s e stays orderly (asked, ticks) = orderly_ticks _ s.session.phase s e now left acts orderly orderly ticks
+orderly_happens (Ask now) s e stays orderly sent = subst (λ (x : StandingState). IsOrderly x.session.phase) (sym sent) orderly
 orderly_happens CatchUp s e stays orderly caught = subst (λ (x : StandingState). IsOrderly x.session.phase) (sym caught) (orderly_caught s.pace.left s.session.phase orderly)
 
 -- ---- runs

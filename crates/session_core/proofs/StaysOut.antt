@@ -38,7 +38,7 @@ use Rattle.session_core.specs.Courses.{Course, course_fed, is_held, teaching_ane
 use Rattle.session_core.specs.Sessions.{SessionState, going, Concludes, ReceivesBytes, first_word, IsWelcomed, Connects, Accepts, Greets, GoesIn, GoesNew, GoesHello, GoesOpen, Turns, HasNothing, FinishesResync, StartsPendingResync, Settles, opening, speaking}
 use Rattle.session_core.specs.Paces.{inferred, is_ahead}
 use Rattle.session_core.specs.Standing.{StandingState, is_open, changed, shared, finished_if, finishing, Does, task_at, TakesTurn, Writes, answer_of_refusal, Stands, without_tables, leaving, TicksIn, caught_up_in}
-use Rattle.session_core.specs.StandingRuns.{Happening, At, Tick, CatchUp, Happens, leaves}
+use Rattle.session_core.specs.StandingRuns.{Happening, At, Tick, Ask, CatchUp, Happens, leaves}
 use Rattle.session_core.specs.StandingSteps.{is_settlement, settles_all}
 
 -- ---- truth values
@@ -341,5 +341,6 @@ out_caught t left phases.Ended out = absurd (false≢true out)
 pub stays_out : (s e : StandingState) (one : Happening) (table : ℕ) → Happens s one e → is_out table (shared s.session.phase) ≡ true → settles_all table one ≡ false → leaves table one ≡ false → is_open e.session.phase ≡ true → is_out table (shared e.session.phase) ≡ true
 stays_out s e (At now event acts) table stands out unsettled stays opened = out_stands table event s e now acts unsettled out stands opened
 stays_out s e (Tick now left acts) table (asked, ticks) out unsettled stays opened = out_ticks table _ s.session.phase s e now left acts refl stays out ticks opened
+stays_out s e (Ask now) table sent out unsettled stays opened = ap (λ (x : StandingState). is_out table (shared x.session.phase)) sent ∙ out
 stays_out s e CatchUp table caught out unsettled stays opened =
     ap (λ (x : StandingState). is_out table (shared x.session.phase)) caught ∙ out_caught table s.pace.left s.session.phase out

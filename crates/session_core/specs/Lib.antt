@@ -8,6 +8,8 @@ pub mod Runs
 pub mod Cutting
 pub mod Paces
 pub mod Standing
+pub mod Manners
+pub mod Keeping
 pub mod StandingRuns
 pub mod StandingSteps
 pub mod Hearing

@@ -9,6 +9,7 @@ use Rattle.session_core.specs.declared.action.Action.{Action}
 use Rattle.session_core.specs.declared.action.Action.TheVariants as actions
 use Rattle.session_core.specs.declared.event.Event.{Event}
 use Rattle.session_core.specs.declared.event.Event.TheVariants as events
+use Rattle.session_core.specs.declared.machine.Machine.{Machine}
 use Rattle.session_core.specs.declared.stay.Stay.{Stay}
 use Rattle.session_core.specs.declared.pace.Task.{Task}
 use Rattle.session_core.specs.declared.pace.Task.TheVariants as tasks
@@ -25,8 +26,8 @@ pub record StandingState : Type 0 where
   pub session : SessionState
   pub pace : Pace
 
-abbrev pub stood : Stay → StandingState
-stood t = record { session = seen t.machine; pace = t.pace }
+abbrev pub stood : Machine → Stay → StandingState
+stood m t = record { session = seen m; pace = t.pace }
 
 -- the session with its course changed; one that is over has none
 abbrev pub changed : (Course → Course) → Phase → Phase

@@ -15,18 +15,20 @@ use Rattle.session_core.specs.Actions.{control_text}
 use Rattle.session_core.specs.Sessions.{SessionState}
 use Rattle.session_core.specs.Runs.{IsBegun}
 use Rattle.session_core.specs.Paces.{has_passed, heartbeat_time}
-use Rattle.session_core.specs.Standing.{StandingState, Stands, Ticks, stays_from, is_open, any_left, heartbeats, caught_up}
+use Rattle.session_core.specs.Standing.{StandingState, Stands, Ticks, stays_from, is_open, any_left, heartbeats, caught_up, sent_at}
 
 -- What happened: at a moment, an event, with the actions that it asked for; at a moment, a tick, with the tables that it left
--- and the actions that it asked for; or this node became up to date.
+-- and the actions that it asked for; at a moment, this node sent a resync request; or this node became up to date.
 pub data Happening : Type 0 where
   At : ℕ → Event → List Action → Happening
   Tick : ℕ → List ℕ → List Action → Happening
+  Ask : ℕ → Happening
   CatchUp : Happening
 
 abbrev pub Happens : StandingState → Happening → StandingState → Type 0
 Happens s (At now event acts) e = Stands s now event acts e
 Happens s (Tick now left acts) e = Ticks s now left acts e
+Happens s (Ask now) e = e ≡ sent_at now s
 Happens s CatchUp e = e ≡ caught_up s
 
 -- a run: what happened, in order
@@ -41,6 +43,7 @@ BeginsToStay roster s = (begun : SessionState) × (now : ℕ) × IsBegun roster 
 abbrev pub acts_of : Happening → List Action
 acts_of (At now event acts) = acts
 acts_of (Tick now left acts) = acts
+acts_of (Ask now) = []
 acts_of CatchUp = []
 
 -- ---- ticks that only keep the connection
@@ -53,12 +56,14 @@ is_close action = false
 abbrev pub IsIdle : Happening → Type 0
 IsIdle (At now event acts) = Unit {0}
 IsIdle (Tick now left acts) = (left ≡ []) × (list_any is_close acts ≡ false)
+IsIdle (Ask now) = Unit {0}
 IsIdle CatchUp = Unit {0}
 
 abbrev pub without_ticks : List Happening → List Happening
 without_ticks [] = []
 without_ticks (At now event acts ∷ steps) = At now event acts ∷ without_ticks steps
 without_ticks (Tick now left acts ∷ steps) = without_ticks steps
+without_ticks (Ask now ∷ steps) = Ask now ∷ without_ticks steps
 without_ticks (CatchUp ∷ steps) = CatchUp ∷ without_ticks steps
 
 -- what such a tick asks for in this phase
@@ -96,11 +101,13 @@ abbrev pub handed : List Happening → List (Event × List Action)
 handed [] = []
 handed (At now event acts ∷ steps) = (event, acts) ∷ handed steps
 handed (Tick now left acts ∷ steps) = handed steps
+handed (Ask now ∷ steps) = handed steps
 handed (CatchUp ∷ steps) = handed steps
 
 abbrev pub leaves : ℕ → Happening → Bool
 leaves table (At now event acts) = false
 leaves table (Tick now left acts) = list_any (λ id. id == table) left
+leaves table (Ask now) = false
 leaves table CatchUp = false
 
 -- some tick left the table
@@ -110,6 +117,7 @@ was_left table steps = list_any (leaves table) steps
 abbrev pub leaves_any : Happening → Bool
 leaves_any (At now event acts) = false
 leaves_any (Tick now left acts) = any_left left
+leaves_any (Ask now) = false
 leaves_any CatchUp = false
 
 abbrev pub is_finish : Action → Bool

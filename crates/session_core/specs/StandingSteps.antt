@@ -11,7 +11,7 @@ use Rattle.session_core.specs.declared.share.Share.{Share}
 use Rattle.session_core.specs.Runs.{BringsBytes}
 use Rattle.session_core.specs.Paces.{renewed}
 use Rattle.session_core.specs.Standing.{sends, is_send}
-use Rattle.session_core.specs.StandingRuns.{Happening, At, Tick, CatchUp}
+use Rattle.session_core.specs.StandingRuns.{Happening, At, Tick, Ask, CatchUp}
 
 -- ---- moments
 
@@ -19,18 +19,21 @@ use Rattle.session_core.specs.StandingRuns.{Happening, At, Tick, CatchUp}
 abbrev pub IsSince : ℕ → Happening → Type 0
 IsSince moment (At now event acts) = moment ≤ now
 IsSince moment (Tick now left acts) = moment ≤ now
+IsSince moment (Ask now) = moment ≤ now
 IsSince moment CatchUp = Unit {0}
 
 -- it happened at the moment, and sent bytes
 abbrev pub SendsAt : ℕ → Happening → Type 0
 SendsAt moment (At now event acts) = (now ≡ moment) × (sends event acts ≡ true)
 SendsAt moment (Tick now left acts) = (now ≡ moment) × (list_any is_send acts ≡ true)
+SendsAt moment (Ask now) = now ≡ moment
 SendsAt moment CatchUp = ⊥
 
 -- when bytes were last sent: then, if it sent some, and otherwise when they were before
 abbrev pub sent_by : Happening → ℕ → ℕ
 sent_by (At now event acts) before = renewed (sends event acts) now before
 sent_by (Tick now left acts) before = renewed (list_any is_send acts) now before
+sent_by (Ask now) before = now
 sent_by CatchUp before = before
 
 -- ---- bytes
@@ -39,6 +42,7 @@ sent_by CatchUp before = before
 abbrev pub HearsBytes : Happening → Type 0
 HearsBytes (At now event acts) = BringsBytes event
 HearsBytes (Tick now left acts) = Unit {0}
+HearsBytes (Ask now) = Unit {0}
 HearsBytes CatchUp = Unit {0}
 
 -- ---- tables
@@ -66,4 +70,5 @@ is_settlement table event = false
 abbrev pub settles_all : ℕ → Happening → Bool
 settles_all table (At now event acts) = is_settlement table event
 settles_all table (Tick now left acts) = false
+settles_all table (Ask now) = false
 settles_all table CatchUp = false

@@ -1,6 +1,6 @@
 //! Laws of the definitions, which hold whatever the program does.
 
-ghost use Rattle.std.specs.Prelude.{◌≡◌, ◌⊎◌, ℕ, Bool, None, ◌∷◌, ◌++◌, [], true, false, List};
+ghost use Rattle.std.specs.Prelude.{◌≡◌, ◌⊎◌, ℕ, Bool, None, ◌∷◌, ◌++◌, [], true, false, List, map};
 ghost use Rattle.std.specs.List.{AllByRecursion, list_any};
 ghost use Rattle.table_types.specs.Tables.{Definition};
 ghost use Rattle.table_types.specs.declared.copies.CopyKind.TheVariants as kinds;
@@ -18,6 +18,10 @@ ghost use Rattle.session_core.specs.Courses.{Course};
 ghost use Rattle.session_core.specs.Cutting.{AreFed, IsFedOut, without_acks};
 ghost use Rattle.session_core.specs.Hearing.{Hears, asked_in, heard_in, told};
 ghost use Rattle.session_core.specs.Standing.{is_open, is_reopen};
+ghost use Rattle.session_core.specs.StandingRuns.{At, Lasts};
+ghost use Rattle.session_core.specs.Paces.{Pace};
+ghost use Rattle.session_core.specs.Manners as manners;
+ghost use Rattle.session_core.specs.Keeping.{KeptSession, Walks, standing};
 ghost use Rattle.session_core.specs.Sessions.{SessionState, Goes, accepting, connecting, is_asked};
 ghost use Rattle.session_core.specs.Runs.{Runs, IsBegun, ends_resync, falls_back_in, HasNothingLeft, HasNothingOut, HoldsBytes, BringsBytes, version_in, was_confirmed};
 
@@ -30,6 +34,16 @@ pub fn resyncs_end_taught()
     ensures left { (roster : List Definition) (begun s e : SessionState) (steps : List (Event × List Action)) (event : Event) (acts : List Action) →
         IsBegun roster begun → Runs begun steps s → Goes s event acts e → ends_resync acts ≡ true →
         AllByRecursion (λ d. HasNothingLeft kinds.Resync (steps ++ ((event, acts) ∷ [])) d.id) roster }
+{}
+
+/// Events that come one after another at one moment move a plain session by a run of the protocol's machine, whatever the moment, and
+/// leave it plain (`plain`). They move a session that stays as its pace says, and it stays on (`staying`).
+pub fn walks_are_runs()
+    ensures plain { (now : ℕ) (s e : KeptSession) (steps : List (Event × List Action)) →
+        s.manner ≡ manners.Plain → Walks now s steps e → Runs s.session steps e.session × (e.manner ≡ manners.Plain) }
+    ensures staying { (now : ℕ) (s e : KeptSession) (p : Pace) (steps : List (Event × List Action)) →
+        s.manner ≡ manners.Staying p → Walks now s steps e →
+        (q : Pace) × Lasts (standing s.session p) (map (λ step. At now step.0 step.1) steps) (standing e.session q) × (e.manner ≡ manners.Staying q) }
 {}
 
 /// An event that may not happen makes no step: no case of the machine fits it.

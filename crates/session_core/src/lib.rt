@@ -21,10 +21,11 @@ mod progress;
 mod receiving;
 mod session;
 mod share;
-mod standing;
 mod standing_laws;
 mod state;
 mod stay;
+mod tally;
+mod ticked;
 mod times;
 
 pub use acks::ack_of;
@@ -35,9 +36,9 @@ pub use event::Event;
 pub use laws::{
     a_fault_ends_the_session, a_step_exists, a_step_is_unique, any_answers, any_events,
     any_greeting, confirmed_is_sent, resyncs_end_taught, the_hello_decides, unasked_is_no_step,
+    walks_are_runs,
 };
 pub use session::Session;
-pub use standing::Standing;
 pub use standing_laws::{
     a_batch_stays_out, a_left_table_stays_left, a_resync_has_work_left, a_standing_step_exists,
     a_standing_step_is_unique, acknowledgements_were_received, any_moments, heartbeats_keep_time,
@@ -45,4 +46,5 @@ pub use standing_laws::{
     ticks_change_nothing_else, what_a_tick_gives,
 };
 pub use state::State;
-pub use stay::Ticked;
+pub use tally::{Counts, TableTally};
+pub use ticked::Ticked;

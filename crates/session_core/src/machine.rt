@@ -1,6 +1,6 @@
 //! The steps of a session.
 
-ghost use Rattle.std.specs.Prelude.{◌≡◌, ◌≢◌, ◌∷◌, [], Err, IfOk, IfErr, OnOk, OnErr};
+ghost use Rattle.std.specs.Prelude.{◌≡◌, ◌≢◌, ◌∷◌, [], true, Err, IfOk, IfErr, OnOk, OnErr};
 ghost use Rattle.session_core.specs.declared.action.Action.TheVariants as actions;
 ghost use Rattle.session_core.specs.declared.error.SessionError.{SessionError};
 ghost use Rattle.session_core.specs.declared.error.SessionError.TheVariants as errors;
@@ -10,7 +10,7 @@ ghost use Rattle.session_core.specs.declared.phase.Greeter.TheVariants as greete
 ghost use Rattle.session_core.specs.Phases as phases;
 ghost use Rattle.session_core.specs.declared.phase.Stage.TheVariants as stages;
 ghost use Rattle.session_core.specs.Courses.{course_fed, none_due, acks_sent, acks_given};
-ghost use Rattle.session_core.specs.Sessions.{Goes, GoesOpen, Keeps, Concludes, Refuses, IsWhy, is_asked_open, phase_of, seen, going, kind_of_fault, state_of};
+ghost use Rattle.session_core.specs.Sessions.{Goes, GoesOpen, Keeps, Concludes, Refuses, IsWhy, ended, is_asked, is_asked_open, phase_of, seen, going, kind_of_fault, state_of};
 
 use crate::action::{Action, confirms, only, push};
 use crate::course::Course;
@@ -21,6 +21,7 @@ use crate::halt::Halt;
 use crate::handshake::{Handshake, after, greeting};
 use crate::phase::{Greeter, Stage};
 use crate::state::State;
+use crate::ticked::Ticked;
 use known_state::Known;
 use learner::Fault;
 use peers_msg::{Breach, ErrorKind};
@@ -66,6 +67,55 @@ impl Machine {
             Stage::Hello(_, _) => State::Hello,
             Stage::Open => self.course.state(),
             Stage::Ended => State::Ended,
+        }
+    }
+
+    /// Makes the step at `event`, and returns the actions to perform, in order. After an error the session is over.
+    pub(crate) fn on(&mut self, alloc: Global, event: Event) -> Result<Vec<Action>, SessionError>
+        ensures goes { IfOk result (λ acts. Goes (seen self.old) event acts.items (seen self.new)) }
+        ensures refused { IfErr result (λ e. Refuses (phase_of self.old.stage self.old.course) event e) }
+        ensures exactly { (e : SessionError) → e ≢ errors.Memory → Refuses (phase_of self.old.stage self.old.course) event e → result ≡ Err e }
+        ensures ended { OnErr result (seen self.new ≡ ended (seen self.old)) }
+    {
+        let given = self.step(alloc, event);
+        if given.is_err() {
+            self.stage = Stage::Ended;
+        }
+        given
+    }
+
+    /// Fails if no turn may come: with `Ended` if the session is over, and with `Unasked` while an answer is due.
+    pub(crate) fn check_turn(&self) -> Result<(), SessionError>
+        ensures asked { OnOk result (is_asked (phase_of self.now.stage self.now.course) events.Turn ≡ true) }
+        ensures refused { IfErr result (λ e. Refuses (phase_of self.now.stage self.now.course) events.Turn e) }
+        ensures exactly { (e : SessionError) → e ≢ errors.Memory → Refuses (phase_of self.now.stage self.now.course) events.Turn e → result ≡ Err e }
+    {
+        match &self.stage {
+            Stage::New(_) | Stage::Hello(_, _) => Ok(()),
+            Stage::Open if self.course.none_due() => Ok(()),
+            Stage::Open => Err(SessionError::Unasked),
+            Stage::Ended => Err(SessionError::Ended),
+        }
+    }
+
+    /// Makes the step at a tick, which may come whenever a turn may, and does nothing. After an error the session is over.
+    pub(crate) fn on_tick(&mut self, alloc: Global) -> Result<Ticked, SessionError>
+        ensures asked { OnOk result (is_asked (phase_of self.old.stage self.old.course) events.Turn ≡ true) }
+        ensures nothing { IfOk result (λ t. (t.left.items ≡ []) × (t.actions.items ≡ [])) }
+        ensures same { OnOk result (self.new ≡ self.old) }
+        ensures refused { IfErr result (λ e. Refuses (phase_of self.old.stage self.old.course) events.Turn e) }
+        ensures exactly { (e : SessionError) → e ≢ errors.Memory → Refuses (phase_of self.old.stage self.old.course) events.Turn e → result ≡ Err e }
+        ensures ended { OnErr result (seen self.new ≡ ended (seen self.old)) }
+    {
+        match self.check_turn() {
+            Ok(()) => Ok(Ticked {
+                left: Vec::new(alloc),
+                actions: Vec::new(alloc),
+            }),
+            Err(error) => {
+                self.stage = Stage::Ended;
+                Err(error)
+            }
         }
     }
 

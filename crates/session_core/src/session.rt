@@ -3,15 +3,23 @@
 ghost use Rattle.std.specs.Prelude.{◌≡◌, ◌≢◌, Err, IfOk, IfErr, OnErr};
 ghost use Rattle.session_core.specs.declared.error.SessionError.{SessionError};
 ghost use Rattle.session_core.specs.declared.error.SessionError.TheVariants as errors;
-ghost use Rattle.session_core.specs.Sessions.{Goes, Refuses, connecting, accepting, ended, seen, state_of};
+ghost use Rattle.session_core.specs.declared.event.Event.TheVariants as events;
+ghost use Rattle.session_core.specs.Keeping.{IsTicked, Steps, catching_up, is_any_ahead, is_staying, kept_from, noting_sent, plain};
+ghost use Rattle.session_core.specs.Sessions.{Refuses, connecting, accepting, ended, state_of};
 
 use crate::action::Action;
+use crate::controls::Controls;
 use crate::course::Course;
 use crate::error::SessionError;
 use crate::event::Event;
 use crate::machine::Machine;
+use crate::pace::Pace;
 use crate::phase::{Greeter, Stage};
+use crate::progress::any_ahead;
 use crate::state::State;
+use crate::stay::Stay;
+use crate::tally::{Counts, TableTally, Tally};
+use crate::ticked::Ticked;
 use known_state::Known;
 use learner::Fault;
 use peers_hello::Hello;
@@ -32,18 +40,39 @@ use table_types::{Items, Memory, Moment, Name, Roster, Version};
 ///
 /// The caller performs the actions before a `Close` or a `Part` too, but doesn't answer them. `End`, `ReadFault` and
 /// `WriteFault` may happen whenever the session isn't over.
+///
+/// A session is kept in one of two manners. A *plain* one is made by `connect` or `accept`; its events alone decide what it does.
+/// One that *stays* is made by `stay`, for as long as its connection lasts. It requests no resync by itself, leaves the beginning of
+/// a resync to its turns, and copies, in a resync, each table's rows up to the session's bound in it. It adds what depends on the
+/// clock:
+///
+/// - At a tick, it sends a heartbeat if it has sent nothing for 3 s, and closes if it has received nothing for 10 s.
+/// - Once a batch is written, it counts as acknowledged if its last number is the one that the remote peer acknowledged
+///   last on this connection.
+/// - At a tick, it leaves each table that the remote peer has never acknowledged and of which a batch, copied at least 2 s
+///   ago, is still out. From then on resyncs end as partial. It forgets the names that it has taught, which the remote peer
+///   may have dropped.
+/// - It copies no batch of a table that stores the server's name while the first one of another such table is out.
+/// - An acknowledgement that the table refuses settles nothing, unless its number is above every one taught on this
+///   connection, which ends the session.
+/// - It begins a requested resync at a turn, and not within a second of the one before. It pushes nothing in the first
+///   300 ms.
+///
+/// The moments of all calls are of one clock.
 #[derive(Drop)]
 pub struct Session {
     alloc: Global,
     machine: Machine,
+    /// What it remembers for as long as it stays: on the heap, since a session moves from call to call.
+    stay: Option<Box<Stay>>,
 }
 
 impl Model for Session {
-    ghost use Rattle.session_core.specs.Sessions.{SessionState, seen};
+    ghost use Rattle.session_core.specs.Keeping.{KeptSession, seen_as};
 
-    ghost Value = { SessionState };
+    ghost Value = { KeptSession };
 
-    ghost view = { λ s. seen s.machine };
+    ghost view = { λ s. seen_as s.machine s.stay };
 }
 
 impl Session {
@@ -56,7 +85,7 @@ impl Session {
         roster: Roster,
         up_to_date: bool,
     ) -> Result<Session, Memory>
-        ensures { IfOk result (λ session. session ≡ connecting hello roster up_to_date) }
+        ensures { IfOk result (λ session. session ≡ plain (connecting hello roster up_to_date)) }
     {
         let course = Course::new(alloc, roster.copy(alloc)?, up_to_date)?;
         let known = Known::fresh(alloc, roster)?;
@@ -71,6 +100,7 @@ impl Session {
                 version: None,
                 fell_back: false,
             },
+            stay: None,
         })
     }
 
@@ -83,7 +113,7 @@ impl Session {
         roster: Roster,
         up_to_date: bool,
     ) -> Result<Session, Memory>
-        ensures { IfOk result (λ session. session ≡ accepting own peers.items roster up_to_date) }
+        ensures { IfOk result (λ session. session ≡ plain (accepting own peers.items roster up_to_date)) }
     {
         let course = Course::new(alloc, roster.copy(alloc)?, up_to_date)?;
         let known = Known::fresh(alloc, roster)?;
@@ -102,27 +132,48 @@ impl Session {
                 version: None,
                 fell_back: false,
             },
+            stay: None,
         })
+    }
+
+    /// Returns the session as one that stays, from `now` on. Fails with `Memory` if memory runs out. The laws about sessions that stay
+    /// speak of one that was new.
+    pub fn stay(self, now: Moment) -> Result<Session, Memory>
+        ensures { IfOk result (λ session. session ≡ kept_from now self) }
+    {
+        let Session {
+            alloc,
+            mut machine,
+            ..
+        } = self;
+        let pace = Pace::new(alloc, machine.known.roster(), now.milliseconds())?;
+        let tally = Tally::new(alloc, machine.known.roster())?;
+        let stay = Box::new(alloc, Stay { pace, tally })?;
+        machine.course.stay();
+        Ok(Session {
+            alloc,
+            machine,
+            stay: Some(stay),
+        })
+    }
+
+    /// Returns whether the session stays.
+    pub fn stays(&self) -> bool
+        ensures { result ≡ is_staying self.now.manner }
+    {
+        self.stay.is_some()
     }
 
     /// Returns the state of the session.
     pub fn state(&self) -> State
-        ensures { result ≡ state_of self.now.phase }
+        ensures { result ≡ state_of self.now.session.phase }
     {
         self.machine.state()
     }
 
-    /// Returns the machine of the session.
-    pub(crate) fn into_machine(self) -> Machine
-        ensures { seen result ≡ self }
-    {
-        let Session { machine, .. } = self;
-        machine
-    }
-
     /// Returns what is known of the remote peer as a learner, as the lessons written so far leave it.
     pub fn known(&self) -> &Known
-        ensures { result.now ≡ self.now.known }
+        ensures { result.now ≡ self.now.session.known }
     {
         &self.machine.known
     }
@@ -130,14 +181,14 @@ impl Session {
     /// Returns the fault in the remote peer's messages that ended the session, if one did. After `Memory` it is `None`
     /// too.
     pub fn fault(&self) -> Option<Fault>
-        ensures { result ≡ self.now.fault }
+        ensures { result ≡ self.now.session.fault }
     {
         self.machine.fault
     }
 
     /// Returns whether the session has asked to send resync confirmed.
     pub fn confirmed(&self) -> bool
-        ensures { result ≡ self.now.confirmed }
+        ensures { result ≡ self.now.session.confirmed }
     {
         self.machine.confirmed
     }
@@ -145,33 +196,101 @@ impl Session {
     /// Returns the version that both peers speak, as the hello says. It is `None` until the hello is done, and for ever if the
     /// hello is refused.
     pub fn version(&self) -> Option<Version>
-        ensures { result ≡ self.now.version }
+        ensures { result ≡ self.now.session.version }
     {
         self.machine.version
     }
 
     /// Returns whether the session fell back: its own hello said version 2.1, and the remote peer answered with status 502.
     pub fn fell_back(&self) -> bool
-        ensures { result ≡ self.now.fell_back }
+        ensures { result ≡ self.now.session.fell_back }
     {
         self.machine.fell_back
     }
 
-    /// Returns the actions to perform at `event`, in order. The moment makes no difference.
+    /// Returns how often the remote peer has sent each control message. No contract says what is counted.
+    pub fn controls(&self) -> Controls {
+        self.machine.course.controls
+    }
+
+    /// Returns how much the session asked for since it stays; of one that doesn't stay nothing is counted. No contract says what is.
+    pub fn counts(&self) -> Counts {
+        match &self.stay {
+            None => Counts::none(),
+            Some(stay) => stay.tally.counts,
+        }
+    }
+
+    /// Returns what the session asked for in each table since it stays, in roster order; nothing for one that doesn't stay. No
+    /// contract says what is counted.
+    pub fn tables(&self) -> &[TableTally] {
+        match &self.stay {
+            None => &[],
+            Some(stay) => stay.tally.tables.as_slice(),
+        }
+    }
+
+    /// Returns whether the remote peer acknowledged a number above every one that it was taught on this connection, which only a
+    /// session that stays notes.
+    pub fn is_ahead(&self) -> bool
+        ensures { result ≡ is_any_ahead self.now.manner }
+    {
+        match &self.stay {
+            None => false,
+            Some(stay) => any_ahead(stay.pace.progress.as_slice()),
+        }
+    }
+
+    /// Returns the actions to perform at `event`, in order. The moment makes no difference to a plain session.
     ///
     /// Refuses with `Ended` if the session was over, with `Unasked` if the event can't happen in its state, and with
     /// `Memory` if memory runs out. The session is then over and returns no action; all else that can be read of it stays
     /// as it was.
-    pub fn on(&mut self, event: Event, _now: Moment) -> Result<Vec<Action>, SessionError>
-        ensures goes { IfOk result (λ acts. Goes self.old event acts.items self.new) }
-        ensures refused { IfErr result (λ e. Refuses self.old.phase event e) }
-        ensures exactly { (e : SessionError) → e ≢ errors.Memory → Refuses self.old.phase event e → result ≡ Err e }
-        ensures ended { OnErr result (self.new ≡ ended self.old) }
+    pub fn on(&mut self, event: Event, now: Moment) -> Result<Vec<Action>, SessionError>
+        ensures steps { IfOk result (λ acts. Steps self.old now event acts.items self.new) }
+        ensures refused { IfErr result (λ e. Refuses self.old.session.phase event e) }
+        ensures exactly { (e : SessionError) → e ≢ errors.Memory → Refuses self.old.session.phase event e → result ≡ Err e }
+        ensures ended { OnErr result (self.new ≡ record self.old { session = ended self.old.session }) }
+        ensures stays { is_staying self.new.manner ≡ is_staying self.old.manner }
     {
-        let given = self.machine.step(self.alloc, event);
-        if given.is_err() {
-            self.machine.stage = Stage::Ended;
+        match &mut self.stay {
+            None => self.machine.on(self.alloc, event),
+            Some(stay) => stay.on(&mut self.machine, self.alloc, event, now.milliseconds()),
         }
-        given
+    }
+
+    /// Returns what to do at a tick: the tables in which the session is to be closed and opened anew, and then the actions to
+    /// perform, in order. The caller answers none of them. A plain session asks for nothing. A tick may come whenever `Turn` may; if
+    /// neither may, the session refuses the tick for the cause for which it would refuse `Turn`.
+    pub fn tick(&mut self, now: Moment) -> Result<Ticked, SessionError>
+        ensures ticks { IfOk result (λ t. IsTicked self.old now t.left.items t.actions.items self.new) }
+        ensures refused { IfErr result (λ e. Refuses self.old.session.phase events.Turn e) }
+        ensures exactly { (e : SessionError) → e ≢ errors.Memory → Refuses self.old.session.phase events.Turn e → result ≡ Err e }
+        ensures ended { OnErr result (self.new ≡ record self.old { session = ended self.old.session }) }
+        ensures stays { is_staying self.new.manner ≡ is_staying self.old.manner }
+    {
+        match &mut self.stay {
+            None => self.machine.on_tick(self.alloc),
+            Some(stay) => stay.on_tick(&mut self.machine, self.alloc, now.milliseconds()),
+        }
+    }
+
+    /// Notes that this node has sent bytes for which the session didn't ask.
+    pub fn note_sent(&mut self, now: Moment)
+        ensures { self.new ≡ noting_sent now self.old }
+    {
+        if let Some(stay) = &mut self.stay {
+            stay.pace.sent = now.milliseconds();
+        }
+    }
+
+    /// Notes that this node is up to date: from now on the session's resyncs end as finished, unless a tick left a table.
+    pub fn catch_up(&mut self)
+        ensures { self.new ≡ catching_up self.old }
+    {
+        match &self.stay {
+            None => self.machine.course.catch_up(false),
+            Some(stay) => stay.catch_up(&mut self.machine),
+        }
     }
 }

@@ -1,4 +1,5 @@
-//! Laws of sessions that stay, which hold whatever the program does.
+//! Laws of sessions that stay, which hold whatever the program does. Their runs have events and ticks, the resync requests that this node
+//! sends by itself, and calls of `catch_up`.
 
 ghost use Rattle.std.specs.Prelude.{◌≡◌, ◌≢◌, ◌≤◌, ◌<◌, ◌+◌, ◌⊎◌, ◌&&◌, not, ℕ, Bool, true, false, ◌∷◌, ◌++◌, [], List, Some};
 ghost use Rattle.std.specs.List.{list_any, list_all, AllByRecursion};

@@ -1,17 +1,18 @@
 //! The steps of a session that stays.
 
-ghost use Rattle.std.specs.Prelude.{◌≡◌, ◌||◌, ◌++◌, [], ℕ, true, false, IfOk, IfErr, OnOk, OnErr};
+ghost use Rattle.std.specs.Prelude.{◌≡◌, ◌≢◌, ◌||◌, ◌++◌, [], ℕ, true, false, Err, IfOk, IfErr, OnOk, OnErr};
 ghost use Rattle.known_state.specs.Known.{KnownState};
 ghost use Rattle.std.specs.List.{list_any};
 ghost use Rattle.session_core.specs.declared.event.Event.TheVariants as events;
 ghost use Rattle.session_core.specs.declared.phase.Stage.TheVariants as stages;
 ghost use Rattle.session_core.specs.declared.pace.Task.TheVariants as tasks;
 ghost use Rattle.session_core.specs.declared.due.Due.TheVariants as dues;
+ghost use Rattle.session_core.specs.declared.error.SessionError.{SessionError};
 ghost use Rattle.session_core.specs.declared.error.SessionError.TheVariants as errors;
 ghost use Rattle.session_core.specs.Phases.{Phase};
 ghost use Rattle.session_core.specs.Phases as phases;
 ghost use Rattle.session_core.specs.Courses.{is_due, none_due};
-ghost use Rattle.session_core.specs.Sessions.{Keeps, Refuses, IsWhy, phase_of, is_asked};
+ghost use Rattle.session_core.specs.Sessions.{Keeps, Refuses, IsWhy, ended, phase_of, seen};
 ghost use Rattle.session_core.specs.Paces.{has_passed, heartbeat_time, is_ahead};
 ghost use Rattle.session_core.specs.Standing.{stood, brings_bytes, is_send, Listens, Does, TakesTurn, Writes, Stands, Ticks, TicksIn, HandsOn, answer_of_refusal, any_left, heartbeats, caught_up};
 
@@ -25,6 +26,8 @@ use crate::pace::{Pace, Task};
 use crate::phase::Stage;
 use crate::progress::{inferred, is_ahead, last_number, note_acks, note_copy, tables_to_leave};
 use crate::receiving::push_control;
+use crate::tally::Tally;
+use crate::ticked::Ticked;
 use crate::times;
 use crate::times::has_passed;
 use known_state::Known;
@@ -32,23 +35,12 @@ use peers_msg::Control;
 use std::alloc::Global;
 use table_types::{Batch, Items, Memory, Settled};
 
-/// What a session that stays asks for at a tick.
-#[derive(Debug, Drop)]
-pub struct Ticked {
-    /// The tables in which the session is to be closed and opened anew, before any of the actions is performed, so that no
-    /// batch of them is out. From then on, no action copies from them, reopens the session in them or passes on an
-    /// acknowledgement of them. The session still asks to learn rows of them that the remote peer teaches, for which it has
-    /// to be open there.
-    pub left: Vec<u64>,
-    /// The actions to perform, in order.
-    pub actions: Vec<Action>,
-}
-
-/// A session that stays, as its steps change it.
+/// What a session remembers for as long as it stays, beside its machine.
 #[derive(Drop)]
 pub(crate) struct Stay {
-    pub(crate) machine: Machine,
     pub(crate) pace: Pace,
+    /// What it asked for so far.
+    pub(crate) tally: Tally,
 }
 
 /// Returns whether an event brings bytes.
@@ -80,22 +72,47 @@ fn any_left(left: &[u64]) -> bool
     !left.is_empty()
 }
 
+/// Does nothing. Fails with `Unasked` if an answer is due.
+fn rest(machine: &Machine, alloc: Global) -> Result<Vec<Action>, SessionError>
+    ensures rests { IfOk result (λ acts. (machine.now.course.due ≡ []) × (acts.items ≡ [])) }
+    ensures refused { IfErr result (λ e. IsWhy (none_due machine.now.course.due) e) }
+{
+    if !machine.course.none_due() {
+        return Err(SessionError::Unasked);
+    }
+    Ok(Vec::new(alloc))
+}
+
+/// Fails unless the end of a lesson is due next.
+fn check_lesson(machine: &Machine) -> Result<(), SessionError>
+    ensures stage { OnOk result (machine.now.stage ≡ stages.Open) }
+    ensures due { OnOk result (is_due dues.Teach machine.now.course.due ≡ true) }
+    ensures refused { IfErr result (λ e. (known : KnownState) → Refuses (phase_of machine.now.stage machine.now.course) (events.Written known) e) }
+{
+    match &machine.stage {
+        Stage::Open if is_due(&machine.course.due, Due::Teach) => Ok(()),
+        Stage::Open | Stage::New(_) | Stage::Hello(_, _) => Err(SessionError::Unasked),
+        Stage::Ended => Err(SessionError::Ended),
+    }
+}
+
 impl Stay {
     /// Hands the event on to the session.
     fn hand_on(
         &mut self,
+        machine: &mut Machine,
         alloc: Global,
         event: Event,
         now: u64,
     ) -> Result<Vec<Action>, SessionError>
-        ensures hands { IfOk result (λ acts. HandsOn (stood self.old) now event acts.items (stood self.new)) }
-        ensures refused { IfErr result (λ e. Refuses (phase_of self.old.machine.stage self.old.machine.course) event e) }
-        ensures kept { OnErr result (Keeps self.old.machine self.new.machine) }
+        ensures hands { IfOk result (λ acts. HandsOn (stood machine.old self.old) now event acts.items (stood machine.new self.new)) }
+        ensures refused { IfErr result (λ e. Refuses (phase_of machine.old.stage machine.old.course) event e) }
+        ensures kept { OnErr result (Keeps machine.old machine.new × (self.new ≡ self.old)) }
     {
         let hears = brings_bytes(&event);
         let lesson = matches!(event, Event::Written(_));
-        let was_open = matches!(self.machine.stage, Stage::Open);
-        let actions = self.machine.step(alloc, event)?;
+        let was_open = matches!(machine.stage, Stage::Open);
+        let actions = machine.step(alloc, event)?;
         let sends = lesson || any_send(actions.as_slice());
         self.pace.note(sends, hears, was_open, now);
         Ok(actions)
@@ -104,172 +121,197 @@ impl Stay {
     /// Receives bytes, and notes the acknowledgements in them.
     fn listen(
         &mut self,
+        machine: &mut Machine,
         alloc: Global,
         bytes: Items<u8>,
         now: u64,
     ) -> Result<Vec<Action>, SessionError>
-        ensures listens { IfOk result (λ acts. Listens (stood self.old) now bytes acts.items (stood self.new)) }
-        ensures refused { IfErr result (λ e. Refuses (phase_of self.old.machine.stage self.old.machine.course) (events.Bytes bytes) e) }
-        ensures kept { OnErr result (Keeps self.old.machine self.new.machine) }
+        ensures listens { IfOk result (λ acts. Listens (stood machine.old self.old) now bytes acts.items (stood machine.new self.new)) }
+        ensures refused { IfErr result (λ e. Refuses (phase_of machine.old.stage machine.old.course) (events.Bytes bytes) e) }
+        ensures kept { OnErr result (Keeps machine.old machine.new × (self.new ≡ self.old)) }
     {
-        let actions = self.hand_on(alloc, Event::Bytes(bytes), now)?;
+        let actions = self.hand_on(machine, alloc, Event::Bytes(bytes), now)?;
         note_acks(&mut self.pace.progress, actions.as_slice());
         Ok(actions)
     }
 
     /// Begins a resync. Fails with `Unasked` if an answer is due.
-    fn begin_resync(&mut self, alloc: Global, now: u64) -> Result<Vec<Action>, SessionError>
-        requires { self.old.machine.stage ≡ stages.Open }
-        ensures begins { IfOk result (λ acts. Does tasks.Begin (stood self.old) self.old.machine.course now acts.items (stood self.new)) }
-        ensures refused { IfErr result (λ e. IsWhy (none_due self.old.machine.course.due) e) }
-        ensures kept { OnErr result (Keeps self.old.machine self.new.machine) }
+    fn begin_resync(
+        &mut self,
+        machine: &mut Machine,
+        alloc: Global,
+        now: u64,
+    ) -> Result<Vec<Action>, SessionError>
+        requires { machine.old.stage ≡ stages.Open }
+        ensures begins { IfOk result (λ acts. Does tasks.Begin (stood machine.old self.old) machine.old.course now acts.items (stood machine.new self.new)) }
+        ensures refused { IfErr result (λ e. IsWhy (none_due machine.old.course.due) e) }
+        ensures kept { OnErr result (Keeps machine.old machine.new × (self.new ≡ self.old)) }
     {
-        if !self.machine.course.none_due() {
+        if !machine.course.none_due() {
             return Err(SessionError::Unasked);
         }
         let mut actions = Vec::new(alloc);
-        self.machine.course.begin_resync(alloc, &mut actions)?;
+        machine.course.begin_resync(alloc, &mut actions)?;
         self.pace
             .note(any_send(actions.as_slice()), false, true, now);
         self.pace.reopened = Some(now);
         Ok(actions)
     }
 
-    /// Does nothing. Fails with `Unasked` if an answer is due.
-    fn rest(&self, alloc: Global) -> Result<Vec<Action>, SessionError>
-        ensures rests { IfOk result (λ acts. (self.now.machine.course.due ≡ []) × (acts.items ≡ [])) }
-        ensures refused { IfErr result (λ e. IsWhy (none_due self.now.machine.course.due) e) }
-    {
-        if !self.machine.course.none_due() {
-            return Err(SessionError::Unasked);
-        }
-        Ok(Vec::new(alloc))
-    }
-
     /// Takes a turn.
-    fn turn(&mut self, alloc: Global, now: u64) -> Result<Vec<Action>, SessionError>
-        ensures turns { IfOk result (λ acts. TakesTurn (phase_of self.old.machine.stage self.old.machine.course) (stood self.old) now acts.items (stood self.new)) }
-        ensures refused { IfErr result (λ e. Refuses (phase_of self.old.machine.stage self.old.machine.course) events.Turn e) }
-        ensures kept { OnErr result (Keeps self.old.machine self.new.machine) }
+    fn turn(
+        &mut self,
+        machine: &mut Machine,
+        alloc: Global,
+        now: u64,
+    ) -> Result<Vec<Action>, SessionError>
+        ensures turns { IfOk result (λ acts. TakesTurn (phase_of machine.old.stage machine.old.course) (stood machine.old self.old) now acts.items (stood machine.new self.new)) }
+        ensures refused { IfErr result (λ e. Refuses (phase_of machine.old.stage machine.old.course) events.Turn e) }
+        ensures kept { OnErr result (Keeps machine.old machine.new × (self.new ≡ self.old)) }
     {
-        match &self.machine.stage {
-            Stage::Open => match self.pace.task(&self.machine.course, now) {
-                Task::Copy => self.hand_on(alloc, Event::Turn, now),
-                Task::Rest => self.rest(alloc),
-                Task::Begin => self.begin_resync(alloc, now),
+        match &machine.stage {
+            Stage::Open => match self.pace.task(&machine.course, now) {
+                Task::Copy => self.hand_on(machine, alloc, Event::Turn, now),
+                Task::Rest => rest(machine, alloc),
+                Task::Begin => self.begin_resync(machine, alloc, now),
             },
             Stage::New(_) | Stage::Hello(_, _) | Stage::Ended => {
-                self.hand_on(alloc, Event::Turn, now)
+                self.hand_on(machine, alloc, Event::Turn, now)
             }
-        }
-    }
-
-    /// Fails unless the end of a lesson is due next.
-    fn check_lesson(&self) -> Result<(), SessionError>
-        ensures stage { OnOk result (self.now.machine.stage ≡ stages.Open) }
-        ensures due { OnOk result (is_due dues.Teach self.now.machine.course.due ≡ true) }
-        ensures refused { IfErr result (λ e. (known : KnownState) → Refuses (phase_of self.now.machine.stage self.now.machine.course) (events.Written known) e) }
-    {
-        match &self.machine.stage {
-            Stage::Open if is_due(&self.machine.course.due, Due::Teach) => Ok(()),
-            Stage::Open | Stage::New(_) | Stage::Hello(_, _) => Err(SessionError::Unasked),
-            Stage::Ended => Err(SessionError::Ended),
         }
     }
 
     /// Handles the end of a lesson, and passes on the acknowledgement that the remote peer won't repeat.
     fn written(
         &mut self,
+        machine: &mut Machine,
         alloc: Global,
         known: Known,
         now: u64,
     ) -> Result<Vec<Action>, SessionError>
-        ensures writes { IfOk result (λ acts. Writes (phase_of self.old.machine.stage self.old.machine.course) (stood self.old) now known acts.items (stood self.new)) }
-        ensures refused { IfErr result (λ e. Refuses (phase_of self.old.machine.stage self.old.machine.course) (events.Written known) e) }
-        ensures kept { OnErr result (Keeps self.old.machine self.new.machine) }
+        ensures writes { IfOk result (λ acts. Writes (phase_of machine.old.stage machine.old.course) (stood machine.old self.old) now known acts.items (stood machine.new self.new)) }
+        ensures refused { IfErr result (λ e. Refuses (phase_of machine.old.stage machine.old.course) (events.Written known) e) }
+        ensures kept { OnErr result (Keeps machine.old machine.new × (self.new ≡ self.old)) }
     {
-        self.check_lesson()?;
-        let ack = inferred(self.pace.progress.as_slice(), self.machine.course.asked);
+        check_lesson(machine)?;
+        let ack = inferred(self.pace.progress.as_slice(), machine.course.asked);
         let mut actions = Vec::new(alloc);
         if let Some((table, number)) = ack {
-            self.machine
-                .course
-                .acknowledge(table, number, &mut actions)?;
+            machine.course.acknowledge(table, number, &mut actions)?;
         }
-        self.hand_on(alloc, Event::Written(known), now)?;
+        self.hand_on(machine, alloc, Event::Written(known), now)?;
         Ok(actions)
     }
 
     /// Hands on a batch that was copied from `table`, and notes its number.
     fn copied(
         &mut self,
+        machine: &mut Machine,
         alloc: Global,
         table: u64,
         batch: Batch,
         now: u64,
     ) -> Result<Vec<Action>, SessionError>
-        ensures stands { IfOk result (λ acts. Stands (stood self.old) now (events.Copied table batch) acts.items (stood self.new)) }
-        ensures refused { IfErr result (λ e. Refuses (phase_of self.old.machine.stage self.old.machine.course) (events.Copied table batch) e) }
-        ensures kept { OnErr result (Keeps self.old.machine self.new.machine) }
+        ensures stands { IfOk result (λ acts. Stands (stood machine.old self.old) now (events.Copied table batch) acts.items (stood machine.new self.new)) }
+        ensures refused { IfErr result (λ e. Refuses (phase_of machine.old.stage machine.old.course) (events.Copied table batch) e) }
+        ensures kept { OnErr result (Keeps machine.old machine.new × (self.new ≡ self.old)) }
     {
         let number = last_number(&batch);
-        let actions = self.hand_on(alloc, Event::Copied(table, batch), now)?;
+        let actions = self.hand_on(machine, alloc, Event::Copied(table, batch), now)?;
         note_copy(self.pace.progress.as_mut_slice(), table, number, now);
         Ok(actions)
     }
 
     /// Handles an acknowledgement that `table` refused. It is late and settles nothing, unless it is ahead.
-    fn refused(&mut self, alloc: Global, table: u64, now: u64) -> Result<Vec<Action>, SessionError>
-        ensures hands { IfOk result (λ acts. HandsOn (stood self.old) now (answer_of_refusal (is_ahead table self.old.pace.progress) table) acts.items (stood self.new)) }
-        ensures refused { IfErr result (λ e. Refuses (phase_of self.old.machine.stage self.old.machine.course) (events.Refused table) e) }
-        ensures kept { OnErr result (Keeps self.old.machine self.new.machine) }
+    fn refused(
+        &mut self,
+        machine: &mut Machine,
+        alloc: Global,
+        table: u64,
+        now: u64,
+    ) -> Result<Vec<Action>, SessionError>
+        ensures hands { IfOk result (λ acts. HandsOn (stood machine.old self.old) now (answer_of_refusal (is_ahead table self.old.pace.progress) table) acts.items (stood machine.new self.new)) }
+        ensures refused { IfErr result (λ e. Refuses (phase_of machine.old.stage machine.old.course) (events.Refused table) e) }
+        ensures kept { OnErr result (Keeps machine.old machine.new × (self.new ≡ self.old)) }
     {
         if is_ahead(self.pace.progress.as_slice(), table) {
-            self.hand_on(alloc, Event::Refused(table), now)
+            self.hand_on(machine, alloc, Event::Refused(table), now)
         } else {
-            self.hand_on(alloc, Event::Settled(table, Settled::Older), now)
+            self.hand_on(machine, alloc, Event::Settled(table, Settled::Older), now)
         }
     }
 
-    /// Makes the step at `event`, and returns the actions to perform, in order. After an error the stage, the course and
-    /// the pace may be anything, and the caller must end the session.
-    pub(crate) fn step(
+    /// Makes the step at `event`, and returns the actions to perform, in order. After an error the session is over.
+    pub(crate) fn on(
         &mut self,
+        machine: &mut Machine,
         alloc: Global,
         event: Event,
         now: u64,
     ) -> Result<Vec<Action>, SessionError>
-        ensures stands { IfOk result (λ acts. Stands (stood self.old) now event acts.items (stood self.new)) }
-        ensures refused { IfErr result (λ e. Refuses (phase_of self.old.machine.stage self.old.machine.course) event e) }
-        ensures kept { OnErr result (Keeps self.old.machine self.new.machine) }
+        ensures stands { IfOk result (λ acts. Stands (stood machine.old self.old) now event acts.items (stood machine.new self.new)) }
+        ensures refused { IfErr result (λ e. Refuses (phase_of machine.old.stage machine.old.course) event e) }
+        ensures exactly { (e : SessionError) → e ≢ errors.Memory → Refuses (phase_of machine.old.stage machine.old.course) event e → result ≡ Err e }
+        ensures ended { OnErr result ((seen machine.new ≡ ended (seen machine.old)) × (self.new ≡ self.old)) }
     {
-        match event {
-            Event::Bytes(bytes) => self.listen(alloc, bytes, now),
-            Event::Turn => self.turn(alloc, now),
-            Event::Copied(table, batch) => self.copied(alloc, table, batch, now),
-            Event::Written(known) => self.written(alloc, known, now),
-            Event::Refused(table) => self.refused(alloc, table, now),
-            Event::Opened => self.hand_on(alloc, Event::Opened, now),
-            Event::End => self.hand_on(alloc, Event::End, now),
-            Event::ReadFault => self.hand_on(alloc, Event::ReadFault, now),
-            Event::WriteFault => self.hand_on(alloc, Event::WriteFault, now),
-            Event::Nothing(table) => self.hand_on(alloc, Event::Nothing(table), now),
-            Event::Settled(table, settled) => {
-                self.hand_on(alloc, Event::Settled(table, settled), now)
-            }
+        let given = self.step(machine, alloc, event, now);
+        match &given {
+            Ok(actions) => self.tally.count(actions.as_slice()),
+            Err(_) => machine.stage = Stage::Ended,
         }
+        given
     }
 
-    /// Fails if no turn may come: with `Ended` if the session is over, and with `Unasked` while an answer is due.
-    fn check_turn(&self) -> Result<(), SessionError>
-        ensures asked { OnOk result (is_asked (phase_of self.now.machine.stage self.now.machine.course) events.Turn ≡ true) }
-        ensures refused { IfErr result (λ e. Refuses (phase_of self.now.machine.stage self.now.machine.course) events.Turn e) }
+    /// Makes the step at a tick. After an error the session is over.
+    pub(crate) fn on_tick(
+        &mut self,
+        machine: &mut Machine,
+        alloc: Global,
+        now: u64,
+    ) -> Result<Ticked, SessionError>
+        ensures ticks { IfOk result (λ t. Ticks (stood machine.old self.old) now t.left.items t.actions.items (stood machine.new self.new)) }
+        ensures refused { IfErr result (λ e. Refuses (phase_of machine.old.stage machine.old.course) events.Turn e) }
+        ensures exactly { (e : SessionError) → e ≢ errors.Memory → Refuses (phase_of machine.old.stage machine.old.course) events.Turn e → result ≡ Err e }
+        ensures ended { OnErr result ((seen machine.new ≡ ended (seen machine.old)) × (self.new ≡ self.old)) }
     {
-        match &self.machine.stage {
-            Stage::New(_) | Stage::Hello(_, _) => Ok(()),
-            Stage::Open if self.machine.course.none_due() => Ok(()),
-            Stage::Open => Err(SessionError::Unasked),
-            Stage::Ended => Err(SessionError::Ended),
+        let ticked = self.tick(machine, alloc, now);
+        match &ticked {
+            Ok(ticked) => {
+                self.tally.note_left(ticked.left.as_slice());
+                self.tally.count(ticked.actions.as_slice());
+            }
+            Err(_) => machine.stage = Stage::Ended,
+        }
+        ticked
+    }
+
+    /// Makes the step at `event`, and returns the actions to perform, in order. After an error the stage and the course may be
+    /// anything, and the caller must end the session.
+    fn step(
+        &mut self,
+        machine: &mut Machine,
+        alloc: Global,
+        event: Event,
+        now: u64,
+    ) -> Result<Vec<Action>, SessionError>
+        ensures stands { IfOk result (λ acts. Stands (stood machine.old self.old) now event acts.items (stood machine.new self.new)) }
+        ensures refused { IfErr result (λ e. Refuses (phase_of machine.old.stage machine.old.course) event e) }
+        ensures kept { OnErr result (Keeps machine.old machine.new × (self.new ≡ self.old)) }
+    {
+        match event {
+            Event::Bytes(bytes) => self.listen(machine, alloc, bytes, now),
+            Event::Turn => self.turn(machine, alloc, now),
+            Event::Copied(table, batch) => self.copied(machine, alloc, table, batch, now),
+            Event::Written(known) => self.written(machine, alloc, known, now),
+            Event::Refused(table) => self.refused(machine, alloc, table, now),
+            Event::Opened => self.hand_on(machine, alloc, Event::Opened, now),
+            Event::End => self.hand_on(machine, alloc, Event::End, now),
+            Event::ReadFault => self.hand_on(machine, alloc, Event::ReadFault, now),
+            Event::WriteFault => self.hand_on(machine, alloc, Event::WriteFault, now),
+            Event::Nothing(table) => self.hand_on(machine, alloc, Event::Nothing(table), now),
+            Event::Settled(table, settled) => {
+                self.hand_on(machine, alloc, Event::Settled(table, settled), now)
+            }
         }
     }
 
@@ -285,16 +327,21 @@ impl Stay {
 
     /// Makes the step at a tick of an open session that isn't silent: leaves the tables that are overdue, forgets the names if
     /// there are any, and asks for a heartbeat if one is owed.
-    fn tick_open(&mut self, alloc: Global, now: u64) -> Result<Ticked, SessionError>
-        requires { self.old.machine.stage ≡ stages.Open }
-        ensures ticks { IfOk result (λ t. TicksIn false (phases.Open self.old.machine.course) (stood self.old) now t.left.items t.actions.items (stood self.new)) }
+    fn tick_open(
+        &mut self,
+        machine: &mut Machine,
+        alloc: Global,
+        now: u64,
+    ) -> Result<Ticked, SessionError>
+        requires { machine.old.stage ≡ stages.Open }
+        ensures ticks { IfOk result (λ t. TicksIn false (phases.Open machine.old.course) (stood machine.old self.old) now t.left.items t.actions.items (stood machine.new self.new)) }
         ensures memory { IfErr result (λ e. e ≡ errors.Memory) }
-        ensures kept { OnErr result (Keeps self.old.machine self.new.machine) }
+        ensures kept { OnErr result (Keeps machine.old machine.new × (self.new ≡ self.old)) }
     {
         let progress = self.pace.progress.as_slice();
-        let left = tables_to_leave(alloc, progress, self.machine.course.shares.as_slice(), now)?;
+        let left = tables_to_leave(alloc, progress, machine.course.shares.as_slice(), now)?;
         let mut actions = Vec::new(alloc);
-        self.machine
+        machine
             .course
             .leave_all(alloc, left.as_slice(), &mut actions)?;
         self.beat(alloc, &mut actions, now)?;
@@ -302,19 +349,24 @@ impl Stay {
             .note(any_send(actions.as_slice()), false, true, now);
         self.pace.leave(any_left(left.as_slice()));
         if any_left(left.as_slice()) {
-            self.machine.known.forget_names();
+            machine.known.forget_names();
         }
         Ok(Ticked { left, actions })
     }
 
     /// Makes the step at a tick of a session that isn't silent.
-    fn tick_heard(&mut self, alloc: Global, now: u64) -> Result<Ticked, SessionError>
-        ensures ticks { IfOk result (λ t. TicksIn false (phase_of self.old.machine.stage self.old.machine.course) (stood self.old) now t.left.items t.actions.items (stood self.new)) }
+    fn tick_heard(
+        &mut self,
+        machine: &mut Machine,
+        alloc: Global,
+        now: u64,
+    ) -> Result<Ticked, SessionError>
+        ensures ticks { IfOk result (λ t. TicksIn false (phase_of machine.old.stage machine.old.course) (stood machine.old self.old) now t.left.items t.actions.items (stood machine.new self.new)) }
         ensures memory { IfErr result (λ e. e ≡ errors.Memory) }
-        ensures kept { OnErr result (Keeps self.old.machine self.new.machine) }
+        ensures kept { OnErr result (Keeps machine.old machine.new × (self.new ≡ self.old)) }
     {
-        match &self.machine.stage {
-            Stage::Open => self.tick_open(alloc, now),
+        match &machine.stage {
+            Stage::Open => self.tick_open(machine, alloc, now),
             Stage::New(_) | Stage::Hello(_, _) | Stage::Ended => Ok(Ticked {
                 left: Vec::new(alloc),
                 actions: Vec::new(alloc),
@@ -323,12 +375,12 @@ impl Stay {
     }
 
     /// Makes the step at a tick of a session that is silent.
-    fn tick_silent(&mut self, alloc: Global) -> Result<Ticked, SessionError>
-        ensures ticks { (phase : Phase) (now : ℕ) → IfOk result (λ t. TicksIn true phase (stood self.old) now t.left.items t.actions.items (stood self.new)) }
+    fn tick_silent(&self, machine: &mut Machine, alloc: Global) -> Result<Ticked, SessionError>
+        ensures ticks { (phase : Phase) (now : ℕ) → IfOk result (λ t. TicksIn true phase (stood machine.old self.now) now t.left.items t.actions.items (stood machine.new self.now)) }
         ensures memory { IfErr result (λ e. e ≡ errors.Memory) }
-        ensures kept { OnErr result (Keeps self.old.machine self.new.machine) }
+        ensures kept { OnErr result (Keeps machine.old machine.new) }
     {
-        let actions = self.machine.close(alloc)?;
+        let actions = machine.close(alloc)?;
         Ok(Ticked {
             left: Vec::new(alloc),
             actions,
@@ -336,23 +388,28 @@ impl Stay {
     }
 
     /// Makes the step at a tick. After an error as `step`.
-    pub(crate) fn tick(&mut self, alloc: Global, now: u64) -> Result<Ticked, SessionError>
-        ensures ticks { IfOk result (λ t. Ticks (stood self.old) now t.left.items t.actions.items (stood self.new)) }
-        ensures refused { IfErr result (λ e. Refuses (phase_of self.old.machine.stage self.old.machine.course) events.Turn e) }
-        ensures kept { OnErr result (Keeps self.old.machine self.new.machine) }
+    fn tick(
+        &mut self,
+        machine: &mut Machine,
+        alloc: Global,
+        now: u64,
+    ) -> Result<Ticked, SessionError>
+        ensures ticks { IfOk result (λ t. Ticks (stood machine.old self.old) now t.left.items t.actions.items (stood machine.new self.new)) }
+        ensures refused { IfErr result (λ e. Refuses (phase_of machine.old.stage machine.old.course) events.Turn e) }
+        ensures kept { OnErr result (Keeps machine.old machine.new × (self.new ≡ self.old)) }
     {
-        self.check_turn()?;
+        machine.check_turn()?;
         if has_passed(times::SILENCE, self.pace.heard, now) {
-            self.tick_silent(alloc)
+            self.tick_silent(machine, alloc)
         } else {
-            self.tick_heard(alloc, now)
+            self.tick_heard(machine, alloc, now)
         }
     }
 
     /// Makes resyncs end as finished from now on, unless a table was left.
-    pub(crate) fn catch_up(&mut self)
-        ensures { stood self.new ≡ caught_up (stood self.old) }
+    pub(crate) fn catch_up(&self, machine: &mut Machine)
+        ensures { stood machine.new self.now ≡ caught_up (stood machine.old self.now) }
     {
-        self.machine.course.catch_up(self.pace.left);
+        machine.course.catch_up(self.pace.left);
     }
 }

@@ -12,9 +12,9 @@ use crate::tables::{close, forget, number_of, reopen};
 use crate::ticks::{Ticks, Traffic};
 use admin_port::{PassedOver, PeerRole, PeerState, SessionEnd};
 use node_text::push_number;
-use peers_engine::{StandingWorker, Stood};
+use peers_engine::{AlwaysOpen, Outcome, Worker};
 use peers_hello::Hello;
-use session_core::{Controls, Session, Standing, State};
+use session_core::{Controls, Session, State};
 use std::net::{Shutdown, TcpStream};
 use std::sync::Wait;
 use std::thread;
@@ -79,12 +79,12 @@ fn standing_of<N: Wait + Clock>(
     place: &Place<'_, N>,
     role: PeerRole,
     version: Version,
-) -> Option<Standing> {
+) -> Option<Session> {
     let node = place.node;
     let peer = node.configuration.peers.get(place.peer)?;
     let up_to_date = node.catching_up.is_up_to_date(place.rt);
     let session = session_of(node, &peer.name, role, version, up_to_date).ok()?;
-    Standing::new(node.alloc, session, node.clock.now(place.rt)).ok()
+    session.stay(node.clock.now(place.rt)).ok()
 }
 
 /// The work with a session that stands.
@@ -97,7 +97,7 @@ struct Work<'a, N> {
     slot: &'a Slot,
     from: Intake<'a, N>,
     to: Outbox<'a, N>,
-    worker: StandingWorker,
+    worker: Worker,
     role: PeerRole,
     /// Whether the session knows that the node is up to date.
     up_to_date: bool,
@@ -125,7 +125,7 @@ impl<'a, N: Wait + Clock> Work<'a, N> {
         role: PeerRole,
         from: Intake<'a, N>,
         to: Outbox<'a, N>,
-        worker: StandingWorker,
+        worker: Worker,
     ) -> Work<'a, N> {
         let Place {
             rt,
@@ -183,7 +183,7 @@ impl<'a, N: Wait + Clock> Work<'a, N> {
     /// Returns whether there was nothing to do in the last turns, and the peer has acknowledged what it was taught of each table that
     /// it has.
     fn is_settled(&self) -> bool {
-        let tables = self.worker.tally.tables.as_slice();
+        let tables = self.worker.session.tables();
         self.idle >= tables.len()
             && tables
                 .iter()
@@ -219,7 +219,8 @@ impl<'a, N: Wait + Clock> Work<'a, N> {
             received: self.from.total,
             heartbeats: self
                 .worker
-                .tally
+                .session
+                .counts()
                 .heartbeats
                 .wrapping_add(controls.heartbeats),
             sent_at: self.to.begun,
@@ -242,17 +243,18 @@ impl<'a, N: Wait + Clock> Work<'a, N> {
             self.node.alloc,
             &mut self.from,
             &mut self.to,
+            &AlwaysOpen,
             &self.node.shards,
             now,
         );
         self.note_traffic();
         self.idle = match &turned {
-            Ok(Stood::Idled) => self.idle.saturating_add(1),
+            Ok(Outcome::Idled) => self.idle.saturating_add(1),
             _ => 0,
         };
         match turned {
-            Ok(Stood::Worked | Stood::Idled) => self.look(now),
-            Ok(Stood::Closed) => Some(self.closed()),
+            Ok(Outcome::Worked | Outcome::Idled) => self.look(now),
+            Ok(Outcome::Closed) => Some(self.closed()),
             Err(error) => Some(end_of_error(error)),
         }
     }
@@ -274,8 +276,8 @@ impl<'a, N: Wait + Clock> Work<'a, N> {
             forget(&mut self.worker.seat, table.id());
         }
         match ticked {
-            Ok(Stood::Worked | Stood::Idled) => None,
-            Ok(Stood::Closed) => Some(SessionEnd::Silent),
+            Ok(Outcome::Worked | Outcome::Idled) => None,
+            Ok(Outcome::Closed) => Some(SessionEnd::Silent),
             Err(error) => Some(end_of_error(error)),
         }
     }
@@ -366,10 +368,10 @@ impl<'a, N: Wait + Clock> Work<'a, N> {
         self.teaching = teaching;
         self.set_state();
         if teaching {
-            self.rows.1 = self.worker.tally.taught;
+            self.rows.1 = self.worker.session.counts().taught;
             self.log(&[b"resync", b"teacher", b"begun"]);
         } else {
-            let left = self.worker.tally.tables.iter().any(|table| table.left);
+            let left = self.worker.session.tables().iter().any(|table| table.left);
             self.end_teaching(if self.up_to_date && !left {
                 ResyncEnd::Finished
             } else {
@@ -380,8 +382,8 @@ impl<'a, N: Wait + Clock> Work<'a, N> {
 
     /// Adds a line to the log for each table that the session has left since the last tick.
     fn look_at_left(&mut self) {
-        for index in 0..self.worker.tally.tables.len() {
-            let Some(tally) = self.worker.tally.tables.get(index) else {
+        for index in 0..self.worker.session.tables().len() {
+            let Some(tally) = self.worker.session.tables().get(index) else {
                 return;
             };
             let table = tally.table;
@@ -397,7 +399,12 @@ impl<'a, N: Wait + Clock> Work<'a, N> {
         let mut status = self.slot.status(self.rt);
         status.end_teaching(end);
         drop(status);
-        let rows = self.worker.tally.taught.saturating_sub(self.rows.1);
+        let rows = self
+            .worker
+            .session
+            .counts()
+            .taught
+            .saturating_sub(self.rows.1);
         self.log_number(
             &[b"resync", b"teacher", end.name().as_bytes(), b"rows"],
             rows,
@@ -407,7 +414,7 @@ impl<'a, N: Wait + Clock> Work<'a, N> {
     /// Notes that the session is asked for a resync.
     fn begin_asking(&mut self) {
         self.asking = Some(self.worker.session.controls());
-        self.rows.0 = self.worker.tally.learned;
+        self.rows.0 = self.worker.session.counts().learned;
         self.set_state();
         self.log(&[b"resync", b"learner", b"begun"]);
     }
@@ -418,7 +425,12 @@ impl<'a, N: Wait + Clock> Work<'a, N> {
         let mut status = self.slot.status(self.rt);
         status.end_learning(end);
         drop(status);
-        let rows = self.worker.tally.learned.saturating_sub(self.rows.0);
+        let rows = self
+            .worker
+            .session
+            .counts()
+            .learned
+            .saturating_sub(self.rows.0);
         self.log_number(
             &[b"resync", b"learner", end.name().as_bytes(), b"rows"],
             rows,
@@ -448,9 +460,9 @@ impl<'a, N: Wait + Clock> Work<'a, N> {
     /// Returns what the session did so far.
     fn totals(&self) -> Totals {
         Totals {
-            learned: self.worker.tally.learned,
-            taught: self.worker.tally.taught,
-            heartbeats_sent: self.worker.tally.heartbeats,
+            learned: self.worker.session.counts().learned,
+            taught: self.worker.session.counts().taught,
+            heartbeats_sent: self.worker.session.counts().heartbeats,
             heartbeats_received: self.worker.session.controls().heartbeats,
             bytes_sent: self.to.total,
             bytes_received: self.from.arrived(),
@@ -482,7 +494,7 @@ impl<'a, N: Wait + Clock> Work<'a, N> {
     fn report(&mut self) {
         let totals = self.totals();
         let mut status = self.slot.status(self.rt);
-        let _noted = status.note(totals, &self.worker.tally);
+        let _noted = status.note(totals, self.worker.session.tables());
     }
 
     /// Returns the name of the remote peer's fault that ended the session, if one did.
@@ -553,14 +565,14 @@ pub(crate) fn hold<N: Threads + Wait + Clock + Sync>(
     let mut fell_back = false;
     if reopen(place.rt, node, &mut seat, number) {
         if let Some(session) = standing_of(place, connection.role, connection.version) {
-            match StandingWorker::new(node.alloc, session, seat, number, &node.roster) {
-                Ok(worker) => {
-                    let worker = hold_over(place, worker, connection);
-                    fell_back = worker.session.fell_back();
-                    seat = worker.seat;
-                }
-                Err((_, refused)) => seat = refused,
-            }
+            let worker = Worker {
+                session,
+                seat,
+                number,
+            };
+            let worker = hold_over(place, worker, connection);
+            fell_back = worker.session.fell_back();
+            seat = worker.seat;
         }
     }
     close(place.rt, node, &mut seat, number);
@@ -570,9 +582,9 @@ pub(crate) fn hold<N: Threads + Wait + Clock + Sync>(
 /// Holds a session that is open in each table over a connection, unless memory runs out. Gives its worker back.
 fn hold_over<N: Threads + Wait + Clock + Sync>(
     place: &Place<'_, N>,
-    worker: StandingWorker,
+    worker: Worker,
     connection: Connection,
-) -> StandingWorker {
+) -> Worker {
     let (rt, node, slot) = (place.rt, place.node, place.slot);
     let Connection {
         stream,

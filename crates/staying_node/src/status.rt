@@ -1,7 +1,7 @@
 //! What is known of a peer, for those who ask.
 
 use admin_port::{PassedOver, PeerRole, PeerState, ResyncsEnded, SessionEnd, SessionsEnded};
-use peers_engine::{TableTally, Tally};
+use session_core::TableTally;
 use std::alloc::{AllocError, Global};
 use table_types::Version;
 
@@ -193,10 +193,14 @@ impl PeerStatus {
     }
 
     /// Notes what the session that stands did so far.
-    pub(crate) fn note(&mut self, present: Totals, tally: &Tally) -> Result<(), AllocError> {
+    pub(crate) fn note(
+        &mut self,
+        present: Totals,
+        tables: &[TableTally],
+    ) -> Result<(), AllocError> {
         self.present = present;
         self.tables.clear();
-        self.tables.extend_from_slice(tally.tables.as_slice())
+        self.tables.extend_from_slice(tables)
     }
 
     /// Notes that a resync ended in which the node was the teacher.

@@ -249,6 +249,23 @@ impl Couple {
         Some(())
     }
 
+    /// Lets both nodes live through a day, of which the last steps are calm.
+    fn live_through<H: Wait>(&mut self, rt: &H, alloc: Global, day: &Day) -> Option<()> {
+        let mut chances = Chances { state: day.seed };
+        let mut now = Moment::least();
+        for step in 0..day.steps {
+            now = now.later_by(STEP);
+            let mut delayed = (false, false);
+            if day.steps.saturating_sub(step) > CALM {
+                self.strike(rt, alloc, day, &mut chances, now)?;
+                self.track(rt, day, &mut chances, now)?;
+                delayed = (chances.happens(day.delays), chances.happens(day.delays));
+            }
+            self.go_on(rt, alloc, now, delayed)?;
+        }
+        Some(())
+    }
+
     /// Returns what both nodes came to.
     fn passed<H: Wait>(&self, rt: &H) -> Option<Passed> {
         let joiner = &self.joiner.stayer;
@@ -269,18 +286,7 @@ impl Couple {
 
 /// Lets two nodes pass a day, and returns what they came to, or `None` if a session ends by itself.
 pub fn pass<H: Wait>(rt: &H, alloc: Global, day: &Day) -> Option<Passed> {
-    let mut chances = Chances { state: day.seed };
     let mut couple = Couple::new(alloc, &day.tables)?;
-    let mut now = Moment::least();
-    for step in 0..day.steps {
-        now = now.later_by(STEP);
-        let mut delayed = (false, false);
-        if day.steps.saturating_sub(step) > CALM {
-            couple.strike(rt, alloc, day, &mut chances, now)?;
-            couple.track(rt, day, &mut chances, now)?;
-            delayed = (chances.happens(day.delays), chances.happens(day.delays));
-        }
-        couple.go_on(rt, alloc, now, delayed)?;
-    }
+    couple.live_through(rt, alloc, day)?;
     couple.passed(rt)
 }

@@ -122,7 +122,8 @@ fn teaches<H: Wait, W: Write + Faults, G: Gate>(
     shards: &Shards,
 ) -> Result<Turned, EngineError> {
     let mut input = Waiting::new(b"");
-    worker.turn(rt, alloc, &mut input, output, gate, shards, Moment::least())
+    let outcome = worker.turn(rt, alloc, &mut input, output, gate, shards, Moment::least())?;
+    Ok(outcome.turned())
 }
 
 /// Takes such a turn, and returns its outcome.

@@ -31,8 +31,10 @@ impl Side {
         gate: &G,
     ) -> Result<Turned, EngineError> {
         let now = Moment::least();
-        self.worker
-            .turn(rt, alloc, input, output, gate, &self.shards, now)
+        let outcome = self
+            .worker
+            .turn(rt, alloc, input, output, gate, &self.shards, now)?;
+        Ok(outcome.turned())
     }
 }
 

@@ -1,7 +1,7 @@
 //! Ticks of a session that stays. Its peer accepts it as soon as it opens, and then says nothing.
 
 use crate::sessions::connecting;
-use session_core::{Action, Event, Standing};
+use session_core::{Action, Event, Session};
 use std::alloc::Global;
 use table_types::{Items, Moment};
 use tests_play_data::parts::{T1, alone};
@@ -14,13 +14,13 @@ pub enum Beat {
 }
 
 /// Opens the session of `a` at the least moment.
-fn opened(alloc: Global) -> Option<Standing> {
+fn opened(alloc: Global) -> Option<Session> {
     let session = connecting(alloc, alone(alloc, &T1)?, true)?;
     let accepted = Items::new(Vec::from_slice(alloc, b"200\n").ok()?);
-    let mut standing = Standing::new(alloc, session, Moment::least()).ok()?;
-    standing.on(Event::Opened, Moment::least()).ok()?;
-    standing.on(Event::Bytes(accepted), Moment::least()).ok()?;
-    Some(standing)
+    let mut session = session.stay(Moment::least()).ok()?;
+    session.on(Event::Opened, Moment::least()).ok()?;
+    session.on(Event::Bytes(accepted), Moment::least()).ok()?;
+    Some(session)
 }
 
 fn is_asked(actions: &[Action], expected: &Beat) -> bool {
@@ -34,11 +34,11 @@ fn is_asked(actions: &[Action], expected: &Beat) -> bool {
 
 /// Ticks at these times after the session opened, in milliseconds. Returns the index of the first tick that asks for anything else.
 pub fn first_other_tick(alloc: Global, ticks: &[(u32, Beat)]) -> Option<usize> {
-    let Some(mut standing) = opened(alloc) else {
+    let Some(mut session) = opened(alloc) else {
         return Some(0);
     };
     for (place, (after, beat)) in ticks.iter().enumerate() {
-        let Ok(ticked) = standing.tick(Moment::least().later_by(*after)) else {
+        let Ok(ticked) = session.tick(Moment::least().later_by(*after)) else {
             return Some(place);
         };
         if !ticked.left.is_empty() || !is_asked(ticked.actions.as_slice(), beat) {

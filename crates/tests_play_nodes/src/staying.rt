@@ -1,13 +1,12 @@
 //! Two sessions that stay, at work over memory, by a clock that the example moves.
 
 use crate::pipes::Pipe;
-use crate::sessions::roster;
 use crate::sides::rows;
 use crate::tables::{Role, Tables};
 use crate::waiting::Waiting;
 use peers_devices::Counting;
-use peers_engine::{StandingWorker, Stood};
-use session_core::{Session, Standing, State};
+use peers_engine::{AlwaysOpen, Outcome, Worker};
+use session_core::{Session, State};
 use std::alloc::Global;
 use std::sync::Wait;
 use table_cell::TableCell;
@@ -18,9 +17,11 @@ use table_types::{Change, DataType, Key, Moment, Row, Version};
 /// A side of a session that stays: the session at work, its tables, and a seat from which keys are tracked.
 #[derive(Drop)]
 pub(crate) struct Stayer {
-    pub(crate) worker: StandingWorker,
+    pub(crate) worker: Worker,
     pub(crate) shards: Shards,
     tracker: Seat,
+    /// The heartbeats of the sessions before this one.
+    earlier: u64,
 }
 
 /// Both sides, and the bytes between them.
@@ -68,16 +69,20 @@ pub struct Stayed {
 impl Stayer {
     /// Makes a side.
     pub(crate) fn new(alloc: Global, tables: &Tables, role: Role) -> Option<Stayer> {
-        let roster = roster(alloc, tables.roster)?;
         let (session, (shards, mut seats)) = tables.session(alloc, role).zip(tables.shards(alloc))?;
-        let standing = Standing::new(alloc, session, Moment::least()).ok()?;
+        let session = session.stay(Moment::least()).ok()?;
         let tracker = seats.pop()?;
         let seat = seats.pop()?;
-        let worker = StandingWorker::new(alloc, standing, seat, 1, &roster).ok()?;
+        let worker = Worker {
+            session,
+            seat,
+            number: 1,
+        };
         Some(Stayer {
             worker,
             shards,
             tracker,
+            earlier: 0,
         })
     }
 
@@ -89,17 +94,24 @@ impl Stayer {
         input: &mut Pipe,
         output: &mut Pipe,
         now: Moment,
-    ) -> Option<Stood> {
+    ) -> Option<Outcome> {
         let piece = input.piece(4_096);
         let mut reader = Waiting::new(piece);
         let mut writer = Counting::new(Vec::new(alloc));
-        let stood = self
-            .worker
-            .turn(rt, alloc, &mut reader, &mut writer, &self.shards, now);
+        let shards = &self.shards;
+        let outcome = self.worker.turn(
+            rt,
+            alloc,
+            &mut reader,
+            &mut writer,
+            &AlwaysOpen,
+            shards,
+            now,
+        );
         let read = piece.len().saturating_sub(reader.left());
         input.read = input.read.saturating_add(read);
         output.bytes.append(&mut writer.into_inner()).ok()?;
-        stood.ok()
+        outcome.ok()
     }
 
     /// Takes a tick, and then turns until there is nothing to do, at most `most` of them.
@@ -118,14 +130,14 @@ impl Stayer {
             .tick(rt, alloc, &mut writer, &self.shards, now)
             .ok()?;
         output.bytes.append(&mut writer.into_inner()).ok()?;
-        if ticked == Stood::Closed {
+        if ticked == Outcome::Closed {
             return None;
         }
         for _ in 0..most {
             match self.take_turn(rt, alloc, input, output, now)? {
-                Stood::Worked => {}
-                Stood::Idled => return Some(()),
-                Stood::Closed => return None,
+                Outcome::Worked => {}
+                Outcome::Idled => return Some(()),
+                Outcome::Closed => return None,
             }
         }
         Some(())
@@ -182,8 +194,15 @@ impl Stayer {
         }
         lent::open_session(&mut locked, seat, 1, 1, Version::V21).ok()?;
         drop(locked);
-        self.worker.session = Standing::new(alloc, session, now).ok()?;
+        self.earlier = self.heartbeats();
+        self.worker.session = session.stay(now).ok()?;
         Some(())
+    }
+
+    /// Returns how many heartbeats all sessions asked for.
+    fn heartbeats(&self) -> u64 {
+        self.earlier
+            .saturating_add(self.worker.session.counts().heartbeats)
     }
 }
 
@@ -259,7 +278,7 @@ impl Pair {
         let joiner = &self.joiner.worker;
         let server = &self.server.worker;
         Some(Stayed {
-            heartbeats: (joiner.tally.heartbeats, server.tally.heartbeats),
+            heartbeats: (self.joiner.heartbeats(), self.server.heartbeats()),
             next,
             rows: there.len(),
             equal: are_equal(here.as_slice(), there.as_slice()),

@@ -2,9 +2,8 @@
 
 ghost use Rattle.std.specs.Prelude.{◌≡◌, ◌∷◌, [], true, IfErr, IfOk, map};
 ghost use Rattle.node_text.specs.declared.scenes.Scene.{Scene};
-ghost use Rattle.session_core.specs.Sessions.{accepting};
 ghost use Rattle.text_commands.specs.Endings.{IsEarly};
-ghost use Rattle.node_commands.specs.Sharing.{IsServer, worker_at};
+ghost use Rattle.node_commands.specs.Sharing.{IsServer, waiting_session, worker_at};
 
 use crate::node::loading::{NodeTables, opened};
 use crate::node::scene_of;
@@ -27,13 +26,19 @@ pub struct Server {
 }
 
 /// Makes a session that waits for `peer` to connect, and is up to date.
-fn waiting(alloc: Global, name: &Name, peer: &Name, roster: &Roster) -> Result<Session, Memory>
-    ensures { IfOk result (λ session. session ≡ accepting name.now (peer.now ∷ []) roster.now true) }
+#[tactic(auto, unfolding(crate::specs::Sharing::waiting_session))]
+pub(crate) fn waiting(
+    alloc: Global,
+    name: &Name,
+    peer: &Name,
+    roster: Roster,
+) -> Result<Session, Memory>
+    ensures { IfOk result (λ session. session ≡ waiting_session name.now peer.now roster) }
 {
     let own = name.copy(alloc)?;
     let mut peers = Vec::new(alloc);
     peers.push(peer.copy(alloc)?).map_err(Memory::from)?;
-    Session::accept(alloc, own, peers, roster.copy(alloc)?, true)
+    Session::accept(alloc, own, peers, roster, true)
 }
 
 /// Makes a worker for each seat, in order. Its session has the number before the seat's.
@@ -45,11 +50,11 @@ fn workers_at(
     roster: &Roster,
     seats: Vec<Seat>,
 ) -> Result<Vec<Worker>, Memory>
-    ensures { IfOk result (λ workers. workers.items ≡ map (worker_at (accepting name.now (peer.now ∷ []) roster.now true)) seats.items) }
+    ensures { IfOk result (λ workers. workers.items ≡ map (worker_at (waiting_session name.now peer.now roster.now)) seats.items) }
 {
     let mut workers = Vec::with_capacity(alloc, seats.len())?;
     for seat in seats {
-        let session = waiting(alloc, name, peer, roster)?;
+        let session = waiting(alloc, name, peer, roster.copy(alloc)?)?;
         let number = seat.number().saturating_sub(1);
         workers.push(Worker {
             session,

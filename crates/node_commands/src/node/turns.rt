@@ -5,7 +5,7 @@ ghost use Rattle.std.specs.Io.KnownBytes.{Appends, Consumes};
 ghost use Rattle.node_commands.specs.Turning.{Plays, Takes, broken_by, closed_by, ending_after, moment_of, turn_at};
 
 use peers_devices::Faults;
-use peers_engine::{AlwaysOpen, EngineError, Turned, Worker};
+use peers_engine::{AlwaysOpen, EngineError, Outcome, Worker};
 use session_core::{Session, SessionError};
 use std::alloc::Global;
 use std::io::{Read, Write};
@@ -45,7 +45,7 @@ pub(crate) struct Played {
 /// Returns how a session ends that closed the connection: with the fault of the other node's messages if there was one, and
 /// with `Done` otherwise.
 fn closed_by(session: &Session) -> Ending
-    ensures { result ≡ closed_by session.now.fault }
+    ensures { result ≡ closed_by session.now.session.fault }
 {
     match session.fault() {
         Some(fault) => Ending::Stream(fault),
@@ -55,7 +55,7 @@ fn closed_by(session: &Session) -> Ending
 
 /// Returns how a session ends after a turn fails with `error`.
 fn broken_by(session: &Session, error: EngineError) -> Ending
-    ensures { result ≡ broken_by session.now.fault error }
+    ensures { result ≡ broken_by session.now.session.fault error }
 {
     match error {
         EngineError::Session(SessionError::Ended) => closed_by(session),
@@ -71,19 +71,19 @@ fn broken_by(session: &Session, error: EngineError) -> Ending
 fn ending_after(
     session: &Session,
     leaves: bool,
-    turned: Result<Turned, EngineError>,
+    turned: Result<Outcome, EngineError>,
 ) -> Option<Ending>
-    ensures { result ≡ ending_after leaves session.now turned }
+    ensures { result ≡ ending_after leaves session.now.session turned }
 {
     match turned {
-        Ok(Turned::Going) => {
+        Ok(Outcome::Closed) => Some(closed_by(session)),
+        Ok(Outcome::Worked | Outcome::Idled) => {
             if leaves && session.confirmed() {
                 Some(Ending::Done)
             } else {
                 None
             }
         }
-        Ok(Turned::Closed) => Some(closed_by(session)),
         Err(error) => Some(broken_by(session, error)),
     }
 }
@@ -111,7 +111,7 @@ fn take_turn<H: Wait, R: Read + Faults, W: Write + Faults>(
     now: Moment,
     from: &mut R,
     to: &mut W,
-) -> Result<Turned, EngineError>
+) -> Result<Outcome, EngineError>
     ensures { (received sent : List ℕ) × Takes (turn_at now worker.old) result received sent (turn_at now worker.new)
         × Consumes (R.remaining from.old) (R.remaining from.new) received
         × Appends (W.contents to.old) (W.contents to.new) sent }

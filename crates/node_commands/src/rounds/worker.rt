@@ -32,7 +32,7 @@ fn copy<R: Wait, G: Gate>(
     requires { context.now.number ≡ 1 }
     ensures { OnOk result (GainsWork seat.old seat.new) }
 {
-    match copy_batch(context, seat, TABLE, CopyKind::Push) {
+    match copy_batch(context, seat, TABLE, CopyKind::Push, false) {
         Ok(Event::Copied(_, batch)) => Ok(Some(batch)),
         Ok(Event::Nothing(_)) => Ok(None),
         Ok(_) => Err(Ending::Device),

@@ -13,24 +13,24 @@ use Rattle.peers_engine.proofs.doing.teach_batch.Goals as goal
 pub returns-in_err-pieces-clause-failed : goal.returns-in_err-pieces-clause-failed
 returns-in_err-pieces-clause-failed g c =
     let p = err_from_is_err_and c.from_residual.result c.from_residual.ensures.1 in
-    λ session moments same.
+    λ stays session same.
     rw (p.1, p.2)
-    (refused_as c.args.context.now.shards.now moments c.in_err-pieces.field-0.0 c.args.context.now.number c.args.context.now.moment session c.args.seat.now c.args.seat.now (actions.Teach c.args.batch.now) (g.W.Write.contents c.args.output.now)
+    (refused_as c.args.context.now.shards.now stays c.in_err-pieces.field-0.0 c.args.context.now.number c.args.context.now.moment session c.args.seat.now c.args.seat.now (actions.Teach c.args.batch.now) (g.W.Write.contents c.args.output.now)
     (refusal_weaker (λ other. inl (subst (λ (k : KnownState). IsBatchFor k.roster c.args.batch.now → ⊥) (sym same) other, refl)) c.in_err-pieces.field-0.0 c.in_err-pieces.ensures.refused) tt refl)
 
 pub returns-in_err-settle-clause-failed : goal.returns-in_err-settle-clause-failed
 returns-in_err-settle-clause-failed g c =
     let p = err_from_is_err_and c.from_residual-in_err-settle.result c.from_residual-in_err-settle.ensures.1 in
-    λ session moments same.
+    λ stays session same.
     rw (p.1, p.2)
-    (refused_as c.args.context.now.shards.now moments c.in_err-settle.field-0.0 c.args.context.now.number c.args.context.now.moment session c.args.seat.now c.settle.new.seat (actions.Teach c.args.batch.now) (g.W.Write.contents c.args.output.now) (refusal_weaker (λ unsettled. inr unsettled) c.in_err-settle.field-0.0 c.in_err-settle.ensures.refused) tt c.in_err-settle.ensures.stays)
+    (refused_as c.args.context.now.shards.now stays c.in_err-settle.field-0.0 c.args.context.now.number c.args.context.now.moment session c.args.seat.now c.settle.new.seat (actions.Teach c.args.batch.now) (g.W.Write.contents c.args.output.now) (refusal_weaker (λ unsettled. inr unsettled) c.in_err-settle.field-0.0 c.in_err-settle.ensures.refused) tt c.in_err-settle.ensures.stays)
 
 pub returns-in-Err-Write-clause-failed : goal.returns-in-Err-Write-clause-failed
 returns-in-Err-Write-clause-failed g c =
     let pieces = c.in_ok-pieces.pieces in
     let fault = c.in-Err-Write in
-    λ session moments same.
-    falls_short c.args.context.now.shards.now moments (errors.Write fault.sent) c.args.context.now.number c.args.context.now.moment session c.args.seat.now c.settle.new.seat (actions.Teach c.args.batch.now) (bytes_left pieces) (Some (events.Written pieces.known))
+    λ stays session same.
+    falls_short c.args.context.now.shards.now stays (errors.Write fault.sent) c.args.context.now.number c.args.context.now.moment session c.args.seat.now c.settle.new.seat (actions.Teach c.args.batch.now) (bytes_left pieces) (Some (events.Written pieces.known))
     (g.W.Write.contents c.args.output.now) (g.W.Write.contents c.write_pieces.new.output)
     (pieces.known, lesson_from c.args.known.now session.known c.args.batch.now (bytes_left pieces) pieces.known (sym same) c.in_ok-pieces.ensures.lesson, refl, c.in_ok-settle.ensures.settled) (rw fault.field-0-is at fault.ensures.within, rw fault.field-0-is at fault.ensures.sent)
 
@@ -38,7 +38,7 @@ pub returns-in-Err-Memory-clause-failed : goal.returns-in-Err-Memory-clause-fail
 returns-in-Err-Memory-clause-failed g c =
     let pieces = c.in_ok-pieces.pieces in
     let fault = c.in-Err-Memory in
-    λ session moments same.
-    lesson_cut c.args.context.now.shards.now moments c.args.context.now.number c.args.context.now.moment session c.args.seat.now c.settle.new.seat c.args.batch.now (bytes_left pieces) (Some (events.Written pieces.known)) fault.field-0-0
+    λ stays session same.
+    lesson_cut c.args.context.now.shards.now stays c.args.context.now.number c.args.context.now.moment session c.args.seat.now c.settle.new.seat c.args.batch.now (bytes_left pieces) (Some (events.Written pieces.known)) fault.field-0-0
     (g.W.Write.contents c.args.output.now) (g.W.Write.contents c.write_pieces.new.output)
     (pieces.known, lesson_from c.args.known.now session.known c.args.batch.now (bytes_left pieces) pieces.known (sym same) c.in_ok-pieces.ensures.lesson, refl, c.in_ok-settle.ensures.settled) (rw fault.field-0-is at fault.ensures.within) (rw fault.field-0-is at fault.ensures.sent)

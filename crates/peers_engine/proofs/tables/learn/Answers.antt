@@ -1,15 +1,18 @@
-use Rattle.std.proofs.Common.{inl, inr, refl}
+use Rattle.std.proofs.Common.{◌≡◌, ℕ, inl, inr, refl, subst}
 use Rattle.std.proofs.lemmas.Result.{err_from_is_err_and, on_ok_weaker}
+use Rattle.peers_engine.specs.Calls.{RefusesLearnOn}
 use Rattle.peers_engine.proofs.CallLaws.{refusal_weaker, refused_weaker}
 use Rattle.peers_engine.proofs.tables.learn.Goals as goal
 
 pub returns-clause-learned : goal.returns-clause-learned
 returns-clause-learned g c =
-    on_ok_weaker c.learn_at.result (λ learned. (c.deref_mut-locked.result.now, learned)) c.learn_at.ensures.learned
+    on_ok_weaker c.learn_at.result (λ learned. (c.deref_mut-locked.result.now, c.moment_at-now.result, c.moment_at-now.ensures, learned)) c.learn_at.ensures.learned
 
 pub returns-clause-refused : goal.returns-clause-refused
 returns-clause-refused g c =
-    refused_weaker c.learn_at.result (λ refuses. inr (c.deref_mut-locked.result.now, refuses)) c.learn_at.ensures.refused
+    refused_weaker c.learn_at.result
+    (λ refuses. inr (c.deref_mut-locked.result.now, subst (λ (at : ℕ). RefusesLearnOn c.deref_mut-locked.result.now c.args.context.now.number at c.args.seat.now c.args.update c.learn_at.new.seat) c.moment_at-now.ensures refuses))
+    c.learn_at.ensures.refused
 
 pub returns-in_err-guard-clause-refused : goal.returns-in_err-guard-clause-refused
 returns-in_err-guard-clause-refused g c =

@@ -2,6 +2,7 @@ use Rattle.std.proofs.Common.{◌≡◌, ℕ, List}
 use Rattle.std.specs.Io.KnownBytes.{Appends}
 use Rattle.session_core.specs.declared.action.Action.{Action}
 use Rattle.session_core.specs.declared.event.Event.{Event}
+use Rattle.session_core.specs.Keeping.{is_staying}
 use Rattle.peers_engine.specs.Acting.{Acts, asked, worker}
 use Rattle.peers_engine.proofs.turning.do_all.Given as goal
 
@@ -13,4 +14,5 @@ invariant-loop-action g l = record {
       × (l.given.items ≡ asked answers)
       × Appends (g.W.Write.contents l.fn.output) (g.W.Write.contents l.output) out;
   seat : l.seat.number ≡ l.fn.seat.number;
+  manner : is_staying l.session.manner ≡ is_staying l.fn.session.manner;
 }

@@ -19,7 +19,7 @@ pub returns-then-branch-clause-failed : goal.returns-then-branch-clause-failed
 returns-then-branch-clause-failed g c =
     let contents = g.W.Write.contents in
     IfErr-weaker c.receive.result _ _
-    (λ error. then_fails c.args.context.now.shards.now (worker c.args.session.now c.args.seat.now c.args.context.now.number c.args.context.now.moment) (worker c.react.new.session c.react.new.seat c.args.context.now.number c.args.context.now.moment) c.receive.new.session c.receive.new.seat c.first_event-event.result error
+    (λ error. then_fails c.args.context.now.shards.now (worker c.args.session.now c.args.seat.now c.args.context.now.number c.args.context.now.moment) (worker c.react.new.session c.react.new.seat c.args.context.now.number c.args.context.now.moment) c.receive.new.session.session c.receive.new.seat c.first_event-event.result error
     (g.R.Read.remaining c.args.input.now) (g.R.Read.remaining c.receive.new.input)
     (contents c.args.output.now) (contents c.react.new.output) (contents c.receive.new.output)
     (c.first_event-event.ensures ∙ ap first_event c.state.ensures) (c.react.ensures.idle (c.in_ok-react.was ∙ ap Ok c.if-branch.true)))
@@ -30,5 +30,5 @@ returns-in_err-react-clause-failed g c =
     let contents = g.W.Write.contents in
     let p = err_from_is_err_and c.from_residual.result c.from_residual.ensures.1 in
     rw (p.1, p.2)
-    (alone_fails c.args.context.now.shards.now (worker c.args.session.now c.args.seat.now c.args.context.now.number c.args.context.now.moment) c.react.new.session c.react.new.seat c.first_event-event.result c.in_err-react.field-0.0 (g.R.Read.remaining c.args.input.now)
+    (alone_fails c.args.context.now.shards.now (worker c.args.session.now c.args.seat.now c.args.context.now.number c.args.context.now.moment) c.react.new.session.session c.react.new.seat c.first_event-event.result c.in_err-react.field-0.0 (g.R.Read.remaining c.args.input.now)
     (contents c.args.output.now) (contents c.react.new.output) (c.first_event-event.ensures ∙ ap first_event c.state.ensures) c.in_err-react.ensures.failed refl)

@@ -8,17 +8,17 @@ use Rattle.peers_engine.proofs.turning.turn_and_end.Goals as goal
 
 pub returns-in-Err-clause-broken : goal.returns-in-Err-clause-broken
 returns-in-Err-clause-broken g c =
-    broken c.args.context.now.shards.now (worker c.args.session.now c.args.seat.now c.args.context.now.number c.args.context.now.moment) c.take_turn.new.session c.end.new.session c.take_turn.new.seat c.in-Err.error
+    broken c.args.context.now.shards.now (worker c.args.session.now c.args.seat.now c.args.context.now.number c.args.context.now.moment) c.take_turn.new.session.session c.end.new.session.session c.take_turn.new.seat c.in-Err.error
     (g.R.Read.remaining c.args.input.now) (g.R.Read.remaining c.take_turn.new.input)
     (g.W.Write.contents c.args.output.now) (g.W.Write.contents c.take_turn.new.output)
-    c.in-Err.ensures.failed c.end.ensures
+    c.in-Err.ensures.failed c.end.ensures.ended
 
 pub returns-in-Err-clause-stopped : goal.returns-in-Err-clause-stopped
 returns-in-Err-clause-stopped g c =
-    stopped c.args.context.now.shards.now (worker c.args.session.now c.args.seat.now c.args.context.now.number c.args.context.now.moment) c.take_turn.new.session c.end.new.session c.take_turn.new.seat c.in-Err.error
+    stopped c.args.context.now.shards.now (worker c.args.session.now c.args.seat.now c.args.context.now.number c.args.context.now.moment) c.take_turn.new.session.session c.end.new.session.session c.take_turn.new.seat c.in-Err.error
     (g.R.Read.remaining c.args.input.now) (g.R.Read.remaining c.take_turn.new.input)
     (g.W.Write.contents c.args.output.now) (g.W.Write.contents c.take_turn.new.output)
-    c.in-Err.ensures.failed c.end.ensures
+    c.in-Err.ensures.failed c.end.ensures.ended
 
 pub returns-in-Ok-clause-run : goal.returns-in-Ok-clause-run
 returns-in-Ok-clause-run g c =
@@ -29,7 +29,7 @@ returns-in-Ok-clause-run g c =
 
 pub returns-in-Err-clause-over : goal.returns-in-Err-clause-over
 returns-in-Err-clause-over g c = λ over.
-    let phase = c.args.session.now.phase in
+    let phase = c.args.session.now.session.phase in
     let stops = over_stops (c.take_turn.new.input ≡ c.args.input.now) (c.take_turn.new.output ≡ c.args.output.now) phase (first_event (state_of phase)) c.take_turn.result c.in-Err.error
     over c.take_turn.ensures.refused c.in-Err.is in
     (ap (λ (e : EngineError). Err e) stops.0, stops.1, stops.2)

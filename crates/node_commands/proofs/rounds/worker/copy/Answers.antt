@@ -1,4 +1,4 @@
-use Rattle.std.proofs.Common.{ℕ, subst}
+use Rattle.std.proofs.Common.{ℕ, false, subst}
 use Rattle.table_types.specs.declared.copies.CopyKind.TheVariants as kinds
 use Rattle.peers_engine.specs.Calls.{IsCopied}
 use Rattle.node_commands.proofs.TrackLaws.{copied_worked}
@@ -9,4 +9,4 @@ returns-in-Ok-Copied g c =
     let now = c.args.context.now.moment in
     let event = c.in-Ok-Copied.field-0 in
     copied_worked now c.args.seat.now c.copy_batch.new.seat kinds.Push event
-    (subst (λ (n : ℕ). IsCopied n now c.args.seat.now 1 kinds.Push c.copy_batch.new.seat event) c.requires c.in-Ok-Copied.ensures.answer)
+    (subst (λ (n : ℕ). IsCopied false n now c.args.seat.now 1 kinds.Push c.copy_batch.new.seat event) c.requires c.in-Ok-Copied.ensures.answer)
