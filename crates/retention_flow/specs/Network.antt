@@ -109,12 +109,14 @@ abbrev pub IsRoomFrom : ℕ → ℕ → List ℕ → List RequestArc → Type 0
 IsRoomFrom from slots room arcs = (node : ℕ) → node < length arcs → slice_index room node + kept_over (links_of 0 arcs) (node + 1) + (if nat_lt node from then 1 else 0) ≡ slots
 
 -- the network of a search: no arc begins after its request, none saves more than the greatest message has bytes, there is
--- a count of free slots for each place, and an arc that begins at a node ends at one before the last
+-- a count of free slots for each place, an arc that begins at a node ends at one before the last, and those that begin at the
+-- first node are arcs of these
 pub record IsNetwork (network : Network) : Type 0 where
   pub back : GoBack network.arcs.now
   pub little : SaveLittle network.arcs.now
   pub places : length network.room.now ≡ length network.arcs.now
   pub later : (length network.later.now ≡ length network.arcs.now) × ((node : ℕ) → node < length network.arcs.now → slice_index network.later.now node < length network.arcs.now)
+  pub first : (place : ℕ) → place < length network.first.now → slice_index network.first.now place < length network.arcs.now
 
 -- ---- a search
 

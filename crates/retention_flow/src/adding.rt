@@ -12,7 +12,7 @@ use crate::distances::raise_by_distances;
 use crate::network::Network;
 use crate::path_search::quick_search;
 use crate::plans::plan_of;
-use crate::spreading::later_ends;
+use crate::spreading::{first_arcs, later_ends};
 use crate::steps::Ends;
 use known_state::Plan;
 use std::alloc::Global;
@@ -76,6 +76,7 @@ fn add_slots(
     ensures arcs { IfOk result (λ done. (held : List (List ℕ)) → (rs : List Asked) → AreArcs (at_start held) rs arcs.old → AreArcs (at_start held) rs arcs.new) }
 {
     let later = later_ends(alloc, arcs)?;
+    let first = first_arcs(alloc, arcs)?;
     let ends = Ends {
         source: 0,
         target: arcs.len(),
@@ -84,6 +85,7 @@ fn add_slots(
         arcs: &*arcs,
         room: &*room,
         later: later.as_slice(),
+        first: first.as_slice(),
     };
     raise_by_distances(alloc, ends, &network, heights)?;
     for _ in 0..count {
@@ -94,6 +96,7 @@ fn add_slots(
             arcs: &*arcs,
             room: &*room,
             later: later.as_slice(),
+            first: first.as_slice(),
         };
         let steps = quick_search(alloc, ends, &network, heights)?;
         augment(ends, room, arcs, &steps);

@@ -79,8 +79,7 @@ fn over_place_before(
     over_place(heights, network.room, steps, node - 1)
 }
 
-/// Notes the distances of the nodes to which the arcs that begin at `node` lead, if that is the first node: of all but the
-/// last of them.
+/// Notes the distances of the nodes to which the arcs that begin at `node` lead, if that is the first node.
 fn note_from_first(
     network: &Network<'_>,
     heights: &[u64],
@@ -101,12 +100,9 @@ fn note_from_first(
         return Ok(());
     }
     let distance = found.least[node];
-    for index in 0..network.later[node] {
-        let from = network.arcs[index].from;
-        if from == node {
-            let leaving = over_arc(heights, network.arcs, steps, index);
-            note(leaving, distance, target, found)?;
-        }
+    for place in 0..network.first.len() {
+        let leaving = over_arc(heights, network.arcs, steps, network.first[place]);
+        note(leaving, distance, target, found)?;
     }
     Ok(())
 }

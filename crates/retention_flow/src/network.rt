@@ -11,4 +11,6 @@ pub struct Network<'a> {
     pub room: &'a [usize],
     /// Where an arc of a request that begins at a node ends, for each node but the last (`later_ends`).
     pub later: &'a [usize],
+    /// The indices of the arcs that begin at the first node (`first_arcs`).
+    pub first: &'a [usize],
 }

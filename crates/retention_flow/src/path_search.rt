@@ -101,7 +101,7 @@ pub fn search(
     ensures reached { IfOk result (λ steps. length network.now.arcs.now < most → is_reached steps.items ends.target ≡ true) }
 {
     let mut steps = first_step(alloc, heights.len(), ends.source)?;
-    let mut order = Vec::new(alloc);
+    let mut order = Vec::with_capacity(alloc, heights.len())?;
     order.push(ends.source)?;
     reach_target(most, ends, network, heights, &mut steps, &mut order)?;
     Ok(steps)

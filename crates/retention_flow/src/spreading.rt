@@ -26,6 +26,20 @@ pub fn later_ends(alloc: Global, arcs: &[RequestArc]) -> Result<Vec<usize>, Memo
     Ok(later)
 }
 
+/// Returns the indices of the arcs that begin at the first node, in order: one for each name held at the start, and that of the
+/// first request.
+pub fn first_arcs(alloc: Global, arcs: &[RequestArc]) -> Result<Vec<usize>, Memory>
+    ensures { IfOk result (λ first. (place : ℕ) → place < length first.items → slice_index first.items place < length arcs.now) }
+{
+    let mut first = Vec::new(alloc);
+    for (index, arc) in arcs.iter().enumerate() {
+        if arc.from == 0 {
+            first.push(index)?;
+        }
+    }
+    Ok(first)
+}
+
 /// Reaches the node of `leaving` over its arc.
 pub fn reach(
     leaving: Leaving,
@@ -129,8 +143,8 @@ fn reach_over_arc(
     Ok(())
 }
 
-/// Reaches nodes over the arcs that begin at `node`, if that is the first node and the slack is 0: over all but the last of
-/// them. There one arc begins for each name held at the start, at any other node at most one.
+/// Reaches nodes over the arcs that begin at `node`, if that is the first node and the slack is 0. There one arc begins for each
+/// name held at the start, at any other node at most one.
 fn reach_from_first(
     network: &Network<'_>,
     heights: &[u64],
@@ -149,11 +163,8 @@ fn reach_from_first(
     if node > 0 {
         return Ok(());
     }
-    for index in 0..network.later[node] {
-        let from = network.arcs[index].from;
-        if from == node {
-            reach_over_arc(network, heights, index, steps, order)?;
-        }
+    for place in 0..network.first.len() {
+        reach_over_arc(network, heights, network.first[place], steps, order)?;
     }
     Ok(())
 }

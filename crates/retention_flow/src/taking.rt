@@ -10,7 +10,7 @@ use crate::augmenting::augment;
 use crate::network::Network;
 use crate::path_search::search;
 use crate::plans::plan_of;
-use crate::spreading::later_ends;
+use crate::spreading::{first_arcs, later_ends};
 use crate::steps::Ends;
 use known_state::Plan;
 use std::alloc::Global;
@@ -36,6 +36,7 @@ fn take_away(
     ensures arcs { IfOk result (λ done. (held : List (List ℕ)) → (rs : List Asked) → AreArcs (at_start held) rs arcs.old → AreArcs (at_start held) rs arcs.new) }
 {
     let later = later_ends(alloc, arcs)?;
+    let first = first_arcs(alloc, arcs)?;
     let ends = Ends {
         source: arcs.len(),
         target: 0,
@@ -45,6 +46,7 @@ fn take_away(
             arcs: &*arcs,
             room: &*room,
             later: later.as_slice(),
+            first: first.as_slice(),
         };
         let steps = search(alloc, heights.len(), ends, &network, heights)?;
         augment(ends, room, arcs, &steps);

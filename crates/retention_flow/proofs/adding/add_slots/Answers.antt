@@ -14,6 +14,7 @@ loop-init c = record {
   little = c.requires.little;
   many = refl;
   later = (c.in_ok-later.ensures.long, c.in_ok-later.ensures.within);
+  first_arcs = c.in_ok-first.ensures;
   room = c.requires.room;
   arcs = λ held rs are. are;
 }
@@ -26,6 +27,7 @@ quick_search-requires-clause-network c =
       little = c.loop.invariant.little;
       places = c.loop.invariant.room.count;
       later = subst (λ (l : List ℕ). (length l ≡ many) × ((node : ℕ) → node < many → slice_index l node < many)) (sym c.as_slice-in-loop.ensures.value) c.loop.invariant.later;
+      first = subst (λ (l : List ℕ). (place : ℕ) → place < length l → slice_index l place < many) (sym c.as_slice-in-loop-2.ensures.value) c.loop.invariant.first_arcs;
     }
 
 pub quick_search-requires-clause-calm : goal.quick_search-requires-clause-calm
@@ -69,6 +71,7 @@ loop-preserved c =
       little = c.augment.ensures.little;
       many = omega (arith, many, c.loop.invariant.many);
       later = (omega (arith, c.loop.invariant.later.0), λ node below. omega (arith, c.loop.invariant.later.1 node (omega arith)));
+      first_arcs = λ place below. omega (arith, c.loop.invariant.first_arcs place below);
       room = room_at_first (c.loop.counter + 1) c.augment.new.room c.augment.new.arcs (omega arith) turned.1;
       arcs = λ held rs are. c.augment.ensures.arcs held rs (c.loop.invariant.arcs held rs are);
     }
@@ -96,4 +99,5 @@ raise_by_distances-requires-clause-network c =
       little = c.requires.little;
       places = c.requires.room.count;
       later = subst (λ (l : List ℕ). (length l ≡ many) × ((node : ℕ) → node < many → slice_index l node < many)) (sym c.as_slice.ensures.value) (c.in_ok-later.ensures.long, c.in_ok-later.ensures.within);
+      first = subst (λ (l : List ℕ). (place : ℕ) → place < length l → slice_index l place < many) (sym c.as_slice-2.ensures.value) c.in_ok-first.ensures;
     }

@@ -14,6 +14,7 @@ loop-init c = record {
   little = c.requires.little;
   many = refl;
   later = (c.in_ok-later.ensures.long, c.in_ok-later.ensures.within);
+  first_arcs = c.in_ok-first.ensures;
   room = λ slots spent. let same : slots ≡ slots - 0 = omega arith in subst (λ (n : ℕ). IsRoom n c.args.room.now c.args.arcs.now) same spent;
   arcs = λ held rs are. are;
 }
@@ -26,6 +27,7 @@ search-requires-clause-network c =
       little = c.loop.invariant.little;
       places = (c.loop.invariant.room c.requires.room.0 c.requires.room.3).count;
       later = subst (λ (l : List ℕ). (length l ≡ many) × ((node : ℕ) → node < many → slice_index l node < many)) (sym c.as_slice.ensures.value) c.loop.invariant.later;
+      first = subst (λ (l : List ℕ). (place : ℕ) → place < length l → slice_index l place < many) (sym c.as_slice-in-loop.ensures.value) c.loop.invariant.first_arcs;
     }
 
 pub search-requires-clause-calm : goal.search-requires-clause-calm
@@ -69,6 +71,7 @@ loop-preserved c =
     record {
       calm = one.0;
       later = (omega (arith, c.loop.invariant.later.0), λ node below. omega (arith, c.loop.invariant.later.1 node (omega arith)));
+      first_arcs = λ place below. omega (arith, c.loop.invariant.first_arcs place below);
       first = c.in_ok-steps.ensures.found.target ∙ c.loop.invariant.first;
       small = low_from_first (r.0 - c.loop.counter) c.loop.room c.loop.arcs (slice_index c.loop.heights 0) c.loop.invariant.first (omega (arith, c.requires.most, c.loop.invariant.many)) (omega (arith, r.1, c.loop-test.true)) (c.loop.invariant.room r.0 r.3) c.loop.invariant.back c.loop.invariant.little
           hs calm c.in_ok-steps.ensures.found.target;

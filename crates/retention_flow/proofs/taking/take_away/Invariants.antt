@@ -13,6 +13,7 @@ invariant-loop l = record {
   little : SaveLittle l.arcs;
   many : length l.arcs ≡ length l.fn.arcs;
   later : (length l.later.items ≡ length l.arcs) × ((node : ℕ) → node < length l.arcs → slice_index l.later.items node < length l.arcs);
+  first_arcs : (place : ℕ) → place < length l.first.items → slice_index l.first.items place < length l.arcs;
   room : (slots : ℕ) → IsRoom slots l.fn.room l.fn.arcs → IsRoom (slots - l.counter) l.room l.arcs;
   arcs : (held : List (List ℕ)) (rs : List Asked) → AreArcs (at_start held) rs l.fn.arcs → AreArcs (at_start held) rs l.arcs;
 }
