@@ -1,7 +1,7 @@
 pub mod SumsOfPrices
 pub mod NamesInOrder
 pub mod LastPlaces
-pub mod NamesInSlots
+pub mod NamesAtStart
 pub mod LinksAreFound
 pub mod RoomIsKept
 pub mod PlansAreAccepted

@@ -20,7 +20,7 @@ use Rattle.price_checker.specs.LastPlaces.{place_of, name_cmp, NamesRise, HasNam
 -- ---- two names
 
 -- they are the same if and only if they compare as equal
-same_is : (a b : List ℕ) → is_same_name a b ≡ is_eq (name_cmp a b)
+pub same_is : (a b : List ℕ) → is_same_name a b ≡ is_eq (name_cmp a b)
 same_is = lists_ties nat_cmp unsigned_ties
 
 other_if_less : (a b : List ℕ) → name_cmp a b ≡ Less → is_same_name a b ≡ false

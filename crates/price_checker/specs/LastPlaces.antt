@@ -1,23 +1,17 @@
--- The place at which each name was last requested, in order of name.
+-- The place at which each name was last requested, or held, in order of name.
 use Rattle.std.specs.Prelude.{◌≡◌, ℕ, ◌<◌, ◌≤◌, true, List, [], ◌∷◌, length, slice_index_or, Option, Some, None, if◌then◌else◌}
 use Rattle.std.specs.List.{AllByRecursion}
 use Rattle.std.specs.Cmp.Lexicographic.{slice_cmp}
-use Rattle.std.specs.Option.{option_or}
 use Rattle.std.specs.Ordering.{nat_cmp}
 use Rattle.std.specs.declared.cmp.Ordering.{Ordering}
 use Rattle.std.specs.declared.cmp.Ordering.TheVariants.{Less, Greater}
 use Rattle.table_types.specs.Rosters.{is_same_name}
-use Rattle.known_state.specs.Plans.{at_start}
 use Rattle.price_checker.specs.declared.last_places.LastPlace.{LastPlace}
 
 -- the last place of a name, if it is among the names
 abbrev pub place_of : List LastPlace → List ℕ → Option ℕ
 place_of [] name = None
 place_of (last ∷ others) name = if is_same_name last.name.now name then Some last.place else place_of others name
-
--- the place of a name's last request; 0 if it wasn't requested but is held at the start
-abbrev pub last_place : List (List ℕ) → List LastPlace → List ℕ → Option ℕ
-last_place held places name = option_or (place_of places name) ((at_start held).last name)
 
 -- names are ordered as their bytes are
 abbrev pub name_cmp : List ℕ → List ℕ → Ordering

@@ -1,6 +1,5 @@
-use Rattle.std.proofs.Common.{◌≡◌, ℕ, cond, take, Option, Some, ◌+◌, ◌≤◌, ◌↔◌, IsTrue, Bool, List, false, ◌++◌, length, get_or, option_to_list, refl, rules, subst, ap, ◌∙◌, sym, arith, length-append}
+use Rattle.std.proofs.Common.{◌≡◌, ℕ, cond, take, Some, ◌+◌, ◌≤◌, ◌↔◌, IsTrue, Bool, List, false, ◌++◌, length, get_or, option_to_list, refl, rules, subst, ap, ◌∙◌, sym, arith, length-append}
 use Rattle.std.specs.Prelude.{◌&&◌}
-use Rattle.std.specs.Option.{option_or}
 use Rattle.table_types.specs.Rosters.{is_same_name}
 use Rattle.known_state.specs.Plans.{Link, at_start, after_requests, link_of, AreLinked}
 use Rattle.price_checker.specs.LastPlaces.{place_of}
@@ -16,12 +15,12 @@ loop-index-preserved c =
     let i = c.loop-index.index in
     let r = c.index-requests-index.result in
     let kept : Bool = get_or c.args.keep.now i false in
-    let from = c.or_start-from.result in
+    let from = c.insert-from.result in
     let held = names_held c.args.held in
     let before = c.loop-index.last_places in
     let name_is : c.as_slice.result.now ≡ r.name = c.as_slice.ensures.bytes ∙ c.name-name.ensures in
-    let last : from ≡ (after_requests start (take i c.args.requests.now)).last r.name = c.or_start-from.ensures ∙ ap (λ (n : List ℕ). option_or c.insert.result ((at_start held).last n)) c.name-name.ensures ∙ ap (λ (o : Option ℕ). option_or o ((at_start held).last r.name)) (c.insert.ensures.before ∙ ap (place_of before) name_is) ∙ c.loop-index.invariant.last r.name in
-    let moved : (other : List ℕ) → place_of c.insert.new.self other ≡ cond (is_same_name r.name other) (Some (i + 1)) (place_of before other) = λ other. c.insert.ensures.after other ∙ ap (λ (n : List ℕ). cond (is_same_name n other) (Some (i + 1)) (place_of before other)) name_is in
+    let last : from ≡ (after_requests start (take i c.args.requests.now)).last r.name = c.insert-from.ensures.before ∙ ap (place_of before) name_is ∙ c.loop-index.invariant.last r.name in
+    let moved : (other : List ℕ) → place_of c.insert-from.new.self other ≡ cond (is_same_name r.name other) (Some (i + 1)) (place_of before other) = λ other. c.insert-from.ensures.after other ∙ ap (λ (n : List ℕ). cond (is_same_name n other) (Some (i + 1)) (place_of before other)) name_is in
     let is : IsAt start c.args.requests.now c.args.keep.now i r kept from = record { first = refl; below = omega arith; long = c.requires.marks; request = c.index-requests-index.is; mark = refl; last = last } in
     let one = option_to_list c.link_of.result in
     let one_is : one ≡ link_of from (i + 1) r kept = search rules in
@@ -32,6 +31,6 @@ loop-index-preserved c =
       count = subst (λ (l : List Link). length l ≤ i + 1) (sym grown) places;
       found = ap (λ (l : List Link). l ++ links_later start c.args.requests.now c.args.keep.now (i + 1)) grown ∙ links-more start c.args.requests.now c.args.keep.now i r kept from c.loop-index.links one is one_is c.loop-index.invariant.found;
       few = omega arith;
-      last = last_place-more held c.args.requests.now i r before c.insert.new.self (omega arith) c.index-requests-index.is moved c.loop-index.invariant.last;
+      last = last_place-more held c.args.requests.now i r before c.insert-from.new.self (omega arith) c.index-requests-index.is moved c.loop-index.invariant.last;
       linked = subst (λ (b : Bool). (IsTrue (c.loop-index.linked && b) × AreLinkedLater start c.args.requests.now c.args.keep.now (i + 1)) ↔ AreLinked start c.args.requests.now c.args.keep.now) (sym c.is_linked-linked.ensures) linked;
     }
