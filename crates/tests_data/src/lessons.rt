@@ -4,8 +4,8 @@ use crate::bytes::TWO_UPDATES;
 use table_types::{DataType, KeyKind, Value};
 use tests_play_data::cyclic_names::{Names, names_taught};
 use tests_play_data::lessons::{
-    Costly, Taught, comes_in_pieces, first_failing, is_taught_again, is_taught_from_copies,
-    names_cost,
+    Costly, Taught, comes_in_pieces, first_failing, goes_on_after_end, is_taught_again,
+    is_taught_from_copies, names_cost,
 };
 use tests_play_data::parts::{KeyParts, KnownParts, ST, T1, TableParts, UpdateParts};
 
@@ -197,6 +197,15 @@ fn a_lesson_of_a_name_held_is_taught_again(rt: HostRuntime) {
 fn a_lesson_comes_in_three_pieces(rt: HostRuntime) {
     assert_eq!(rt;
         comes_in_pieces(rt.alloc(), &TAUGHT[3], &[16, 18, 11]),
+        Some(true)
+    );
+}
+
+/// `end` is called after the first piece, and hands the pieces back.
+#[test]
+fn a_lesson_goes_on_after_an_early_end(rt: HostRuntime) {
+    assert_eq!(rt;
+        goes_on_after_end(rt.alloc(), &TAUGHT[3], &[16, 18, 11]),
         Some(true)
     );
 }

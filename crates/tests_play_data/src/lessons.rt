@@ -147,6 +147,34 @@ fn ends_after_none(pieces: Pieces, taught: &Taught) -> bool {
     }
 }
 
+/// Returns the pieces, which `end` hands back after the first of them. `None` if the first one isn't these bytes, or if `end`
+/// doesn't hand them back.
+fn handed_back(mut pieces: Pieces, first: &[u8]) -> Option<Pieces> {
+    if !gives(&mut pieces, first) {
+        return None;
+    }
+    match pieces.end() {
+        Ok(_) => None,
+        Err(pieces) => Some(pieces),
+    }
+}
+
+/// Returns whether the pieces have these sizes, are together the lesson's bytes, and end right, with `end` called after the first
+/// one too.
+fn goes_on(pieces: Pieces, taught: &Taught, sizes: &[usize]) -> bool {
+    let Some((first, sizes)) = sizes.split_first() else {
+        return false;
+    };
+    let (first, rest) = taught.bytes.split_at((*first).min(taught.bytes.len()));
+    match handed_back(pieces, first) {
+        Some(mut pieces) => {
+            let given = gives_all(&mut pieces, rest, sizes);
+            ends_after_none(pieces, taught) && given
+        }
+        None => false,
+    }
+}
+
 /// Returns whether messages of these sizes, one after another, end at these places.
 fn are_ends(places: &[usize], sizes: &[usize]) -> bool {
     let mut end: usize = 0;
@@ -196,6 +224,14 @@ fn is_cut(
 pub fn comes_in_pieces(alloc: Global, taught: &Taught, sizes: &[usize]) -> Option<bool> {
     let (known, batch) = prepared(alloc, &taught.from, taught.updates)?;
     is_cut(alloc, &known, &batch, taught, sizes)
+}
+
+/// Returns whether the lesson comes in pieces of these sizes although `end` is called after the first one, and hands the pieces
+/// back.
+pub fn goes_on_after_end(alloc: Global, taught: &Taught, sizes: &[usize]) -> Option<bool> {
+    let (known, batch) = prepared(alloc, &taught.from, taught.updates)?;
+    let pieces = Pieces::new(alloc, &known, &batch).ok()?;
+    Some(goes_on(pieces, taught, sizes))
 }
 
 /// A known state, updates, and the size of the message of each with its name read, and with it written.
