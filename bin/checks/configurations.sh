@@ -1,11 +1,21 @@
 # Checks of `run --check`. They stand in a file of their own, which bin/test reads.
 
-# checked_is ANSWER WHAT: ANSWER is `taken`, or why `run --check` refuses the configuration in $scene.
+# checked_is ANSWER WHAT: ANSWER is `taken`, or how the lines begin that say why `run --check` refuses the configuration in $scene.
 checked_is() {
+    local heads
     run run --check <"$scene"
     case $1 in
         taken) ends "run --check of $2" 0 '' '' ;;
-        *) ends "run --check of $2" 1 '' "$1: refused"$'\n' ;;
+        *)
+            ends "run --check of $2" 1 '' "$errors"
+            heads=$(sed 's/: .*//' "$scratch/errors" | paste -sd, | sed 's/,/, /g')
+            if [ "$heads" = "$1" ] && ! LC_ALL=C grep -q '[^ -~]' "$scratch/errors"; then
+                pass
+            else
+                fail "run --check of $2: $1 is refused, but standard error is:"
+                head -c 2000 "$scratch/errors" | cat -v
+            fi
+            ;;
     esac
 }
 
@@ -22,6 +32,15 @@ short_configurations() {
     done <examples/configuration-lines.tsv
 }
 
+# Each of these files is a configuration, or begins one, with the sentences that it gets behind `#! `.
+mistakes() {
+    local name
+    for name in examples/mistakes/*.conf; do
+        run run --check <"$name"
+        ends "run --check of $name" 1 '' "$(sed -n 's/^#! //p' "$name")"$'\n'
+    done
+}
+
 # Limits that take long configurations: 15 peers, 64 tables, names of 255 bytes.
 long_configurations() {
     local needed=$'node a\nlisten 10.0.0.5:10000\ntable 1 t1 integer 4 0\n' longest
@@ -33,6 +52,10 @@ long_configurations() {
     checked_is taken '64 tables'
     { printf '%s' "$needed"; repeat_lines 64 'table 2%d u%d integer 4 0'; } >"$scene"
     checked_is 'line 67' '65 tables'
+    { printf '%s' "$needed"; repeat_lines 64 'table 2%d u%d integer 5 0'; } >"$scene"
+    checked_is "$(printf ', line %d' {4..23} | cut -c3-)" '64 refused tables: 20 faults'
+    printf '%s\n' {a..s} >"$scene"
+    checked_is "$(printf 'line %d, ' {1..19})configuration" '19 refused lines, and three that lack'
     longest=$(repeat 255 n)
     { printf '%s' "$needed"; printf 'peer %s\nsection %s\ntable 2 %s integer 4 0\n' "$longest" "$longest" "$longest"; } >"$scene"
     checked_is taken 'names of 255 bytes'

@@ -21,7 +21,8 @@ page_is_sound() {
     local title
     keep man --warnings=w -l "$page"
     ends 'man -l of the manual page' 0 "$output" ''
-    for title in NAME SYNOPSIS DESCRIPTION CONFIGURATION ADMIN METRICS 'EXIT STATUS' "WHAT ISN'T SHARED" 'WHAT MAY BE LOST' SECURITY EXAMPLES; do
+    for title in NAME SYNOPSIS DESCRIPTION CONFIGURATION ADMIN HTTP METRICS 'EXIT STATUS' "WHAT ISN'T SHARED" 'WHAT MAY BE LOST' SECURITY \
+        EXAMPLES; do
         if grep -q "^$title" "$scratch/output"; then pass; else fail "the manual page has no $title"; fi
     done
 }

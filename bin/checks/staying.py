@@ -27,8 +27,9 @@ AT_ONCE = 20
 # All checks have to end in so many seconds.
 LIMIT = 600
 # Those that take longest, which begin first.
-LONGEST = """three-faults million-changes haproxy-starts-again haproxy-that-connects haproxy-that-is-connected-to deaf stops-beside-the-deaf
-    heartbeats heartbeats-of-a-connector idle bytes-are-enough silent silent-to-a-connector two-of-three-killed
+LONGEST = """asks-again-after-a-minute three-faults idle-clients million-changes haproxy-starts-again haproxy-that-connects
+    haproxy-that-is-connected-to deaf stops-beside-the-deaf heartbeats heartbeats-of-a-connector idle bytes-are-enough a-byte-a-second reads-slowly
+    silent silent-to-a-connector two-of-three-killed
     killed-and-started-again stopped-and-started-again no-answer-to-a-hello refused-by-a-status falls-back""".split()
 
 

@@ -71,9 +71,7 @@ class Watch:
 
     def __init__(self, node, patience):
         self.node, self.patience = node, patience
-        self.peer = kept_open(('127.0.0.1', node.admin_port))
-        self.peer.setsockopt(socket.SOL_SOCKET, STAMPS, 1)
-        self.peer.settimeout(patience)
+        self.connect()
         self.answers, self.slowest, self.wrong = 0, 0, None
         self.ends = threading.Event()
         self.thread = threading.Thread(target=self.play, daemon=True)
@@ -86,8 +84,30 @@ class Watch:
             except OSError as error:
                 self.wrong = 'the answer to a change: %s' % (error or type(error).__name__)
 
+    def connect(self):
+        """Opens a connection to the admin port."""
+        self.peer = kept_open(('127.0.0.1', self.node.admin_port))
+        self.peer.setsockopt(socket.SOL_SOCKET, STAMPS, 1)
+        self.peer.settimeout(self.patience)
+
     def ask(self):
-        """Makes a change, and reads the answer. The kernel's stamp says when it came, however late this thread runs."""
+        """Makes a change, and reads the answer. The kernel's stamp says when it came, however late this thread runs. If the connection has
+        gone for another, which a crowd may bring about, or if the port is busy, another one is opened, and the change made there."""
+        latest = time.monotonic() + self.patience
+        while True:
+            try:
+                if self.asked() != b'busy\n':
+                    return
+            except ConnectionError:
+                pass
+            if time.monotonic() >= latest:
+                raise ConnectionError('the admin port has no room for a change')
+            self.peer.close()
+            time.sleep(PAUSE)
+            self.connect()
+
+    def asked(self):
+        """Makes a change over the connection that there is. Returns the answer."""
         before = kept_waiting(self.node.child)
         self.peer.sendall(b'track watched %d add gpc0 1\n' % (self.answers % KEYS))
         begun, line = time.time(), b''
@@ -96,6 +116,8 @@ class Watch:
             if not data:
                 raise ConnectionError('the connection is over')
             line += data
+        if line == b'busy\n':
+            return line
         late = self.stamp(notes) - begun
         if late > ANSWERED:
             late -= held_up(before, kept_waiting(self.node.child))
@@ -103,6 +125,7 @@ class Watch:
         self.answers += 1
         if not re.fullmatch(rb'reply [0-9]+ - [0-9]+ [0-9]+ local\n', line):
             self.wrong = 'the answer to a change: %r' % line
+        return line
 
     def stamp(self, notes):
         for level, kind, data in notes:

@@ -72,6 +72,20 @@ class Admin:
             require(False, 'the admin port keeps the connection open after', b''.join(came))
         return b''.join(came)
 
+    def is_over(self):
+        """Whether the node has closed it, as it closes one that is idle for a minute, or idle longest when another comes."""
+        if self.whole or self.left:
+            return False
+        self.peer.settimeout(0)
+        try:
+            return not self.peer.recv(1, socket.MSG_PEEK)
+        except BlockingIOError:
+            return False
+        except ConnectionError:
+            return True
+        finally:
+            self.peer.settimeout(PATIENCE)
+
     def close(self):
         self.peer.close()
 
@@ -134,6 +148,9 @@ class Node:
         return self.trial.closes(Admin(self.admin_port, self.host))
 
     def ask(self, request):
+        """Returns the answer to a request, over the connection that was used before if it is still there."""
+        if self.admins.is_over():
+            self.admins = self.admin()
         return self.admins.ask(request)
 
     # --- What it says of itself
@@ -170,10 +187,10 @@ class Node:
         """Waits until a metric has a value."""
         wait(lambda: self.metric(name) == value, 2, '%s is %g' % (name, value), self.metrics)
 
-    def get(self, path):
-        """Returns the head and the body of what it answers to a GET."""
+    def get(self, path, method='GET'):
+        """Returns the head and the body of what it answers to a GET, or by another method."""
         admin = self.admin()
-        admin.send('GET %s HTTP/1.1\r\nHost: localhost\r\n\r\n' % path)
+        admin.send('%s %s HTTP/1.1\r\nHost: localhost\r\n\r\n' % (method, path))
         head, _, body = admin.rest().partition(b'\r\n\r\n')
         admin.close()
         return head.decode('ascii'), body.decode('ascii')

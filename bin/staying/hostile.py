@@ -285,6 +285,30 @@ def silent_connections(trial):
 
 
 @check
+def reads_slowly(trial):
+    """a peer that reads a lesson too slowly ends its own session 10 s after the lesson began, though it goes on to read"""
+    node = node_of_b(trial, peers=('b', 'c'), tables=('table 1 long string 8192 0 gpc0',))
+    c = connected(trial, node, 'c')
+    up_to_date(node)
+    long_rows(node, 600)
+    peer = trial.closes(kept_open((node.host, node.port), buffer=2048))
+    peer.sendall(hello('n', 'b') + REQUEST)
+    equal(status_of(peer), b'200\n', 'the status')
+    wait(lambda: node.peer('b')['state'] == 'teaching', 2, 'the node teaches', lambda: node.peer('b'))
+    begun, read = time.monotonic(), 0
+    while node.peer('b')['state'] != 'down':
+        between(0, time.monotonic() - begun, 16, 'seconds until the session is over')
+        with contextlib.suppress(OSError):
+            read += len(peer.recv(16384))
+            peer.sendall(HEARTBEAT)
+        time.sleep(0.2)
+    between(9.5, time.monotonic() - begun, 14, 'seconds until the session is over')
+    equal(node.peer('b')['last_end'], 'device', 'the end')
+    require(read > 20_000, 'the peer read', read)
+    c.stands()
+
+
+@check
 def deaf(trial):
     """a peer that doesn't read ends its own session, and delays nobody else's"""
     node = node_of_b(trial, peers=('b', 'c'), tables=('table 1 long string 8192 0 gpc0', T1.replace('1 t1', '2 t1')))

@@ -68,6 +68,29 @@ def refused_tracks(trial):
     equal(node.ask('track t1 8 add gpc0 1'), 'TableFull', 'a track of a key too many')
 
 
+@check
+def addresses(trial):
+    """a key that is an address is read in its usual form too, and a row of it shown in either is one row"""
+    node = alone(trial)
+    answers(node, (('track v4 10.0.0.1 add gpc0 1', 'reply 1 - 0A000001 1 local'),
+                   ('track v4 0A000001 add gpc0 1', 'reply 2 - 0A000001 2 local'),
+                   ('track v4 255.255.255.255 add gpc0 1', 'reply 3 - FFFFFFFF 1 local'), ('get v4 10.0.0.1', 'row 2 - 0A000001 2')))
+    texts = (('2001:db8::1', '20010DB8' + '0' * 23 + '1'), ('::', '0' * 32), ('2001:DB8:0:0:0:0:0:01', '20010DB8' + '0' * 23 + '1'),
+             ('::ffff:10.0.0.1', '0' * 20 + 'FFFF0A000001'), ('1:2:3:4:5:6:7:8', '00010002000300040005000600070008'))
+    for place, (text, key) in enumerate(texts):
+        matches('reply %d - %s [12] local' % (place + 1, key), node.ask('track v6 %s add gpc0 1' % text), 'a track of ' + text)
+        matches('row 3 - %s [12]' % key, node.ask('get v6 ' + text), 'the row of ' + text)
+        equal(node.ask('get v6 ' + text), node.ask('get v6 ' + key), 'the row of ' + text)
+    for name, table_rows in (('v4', 2), ('v6', 4)):
+        shown = [line.split(' ')[0].split('=')[1] for line in entries(node, name)]
+        equal([node.ask('get %s %s' % (name, key)).split(' ')[0] for key in shown], ['row'] * table_rows, 'each key as it is shown')
+    others = (('v4', '::1'), ('v6', '10.0.0.1'), ('t1', '10.0.0.1'), ('st', '::1'), ('bin', '::'))
+    answers(node, [('get %s %s' % row, 'WrongKey') for row in others] + [('get t9 10.0.0.1', 'NoTable'), ('track t9 ::1 add gpc0 1', 'NoTable')])
+    for name, key in (('v4', '10.0.0.256'), ('v4', '10.0.0'), ('v4', '010.0.0.1'), ('v4', '10.0.0.1.'), ('v4', '0A0000'), ('v6', ':'),
+                      ('v6', '1::2::3'), ('v6', '[::1]'), ('v6', '::1%1'), ('v6', '1:2:3:4:5:6:7'), ('v6', '10000::'), ('t1', '1.2.3')):
+        equal(answer_to(node, 'get %s %s\n' % (name, key)), b'refused\n', 'the answer to a key %s' % key)
+
+
 # Lines that can't be read.
 UNREADABLE = ('', ' ', '\r', 'track', 'tracks t1 7 add gpc0 1', 'Track t1 7 add gpc0 1', 'track t1 7 add gpc0', 'track t1 7 add gpc0 1 2',
               'track t1 7 add gpc0 -1', 'track t1 7 add gpc0 01', 'track t1 7 add nothing 1', 'track t1 7 grow gpc0 1',
@@ -137,7 +160,7 @@ def with_body(line):
 
 
 def is_page(came, status, what, allow=None):
-    """Checks that an answer is one of HTTP that closes its connection, and returns its body."""
+    """Checks that an answer is one of HTTP that closes its connection and says how long its body is, and returns that."""
     head, _, body = came.decode().partition('\r\n\r\n')
     first, *fields = head.split('\r\n')
     found = {name.lower(): value for name, value in (field.split(': ', 1) for field in fields)}
@@ -146,19 +169,24 @@ def is_page(came, status, what, allow=None):
     return body
 
 
+# The pages of a node without peers, but for its metrics.
+PAGES = (('/health', 'ok\n'), ('/ready', 'ok\n'), ('/', '/metrics\n/health\n/ready\n'))
+
+
 @check
 def other_methods(trial):
-    """an HTTP request with another method than GET is answered 405, and nothing behind its first line is obeyed"""
+    """an HTTP request with another method than GET and HEAD is answered 405, and nothing behind its first line is obeyed"""
     node = alone(trial)
-    methods = 'POST PUT DELETE PATCH OPTIONS HEAD TRACE get Get GET! stop track show 7 \xff'.split(' ')
+    methods = 'POST PUT DELETE PATCH OPTIONS TRACE get Get GET! head HEADS stop track show 7 \xff'.split(' ')
     for line in ['%s / HTTP/1.1' % method for method in methods] + [
             'OPTIONS * HTTP/1.1', 'CONNECT 127.0.0.1:9100 HTTP/1.1', 'POST http://127.0.0.1:9100/ HTTP/1.1', 'POST /metrics HTTP/1.0', 'POST / HTTP/2',
             'POST stop HTTP/', 'PRI * HTTP/2.0', 'show table HTTP/1.1', 'stop stop HTTP/stop', 'POST / HTTP/1.1\rstop']:
         for data in with_body(line):
-            equal(is_page(answer_to(node, data), 405, repr(data), 'GET'), '', 'the body of the answer to %r' % data)
+            equal(is_page(answer_to(node, data), 405, repr(data), 'GET, HEAD'), '', 'the body of the answer to %r' % data)
     for line in ('POST / HTTP/1.1', 'OPTIONS * HTTP/1.1'):
-        equal(is_page(answer_to(node, line, '\r\n', 'Host: n\r\n', '\r\n', GOOD), 405, line, 'GET'), '', 'the body of the answer to %s in pieces' % line)
-        is_page(answer_to(node, line + '\n' + GOOD * 100_000), 405, line + ' with much behind it', 'GET')
+        came = answer_to(node, line, '\r\n', 'Host: n\r\n', '\r\n', GOOD)
+        equal(is_page(came, 405, line, 'GET, HEAD'), '', 'the body of the answer to %s in pieces' % line)
+        is_page(answer_to(node, line + '\n' + GOOD * 100_000), 405, line + ' with much behind it', 'GET, HEAD')
     is_untouched(node, 'all of them')
 
 
@@ -166,12 +194,16 @@ def other_methods(trial):
 def gets_with_bodies(trial):
     """nothing behind the first line of a GET is obeyed, neither in its head nor in its body"""
     node = alone(trial)
-    for line, status in (('GET /metrics HTTP/1.1', 200), ('GET / HTTP/1.1', 404), ('GET stop HTTP/1.0', 404), ('GET http://n/metrics HTTP/1.1', 404),
+    for line, status in (('GET /metrics HTTP/1.1', 200), ('GET stop HTTP/1.0', 404), ('GET http://n/metrics HTTP/1.1', 404),
                          ('GET \xff HTTP/1.1', 404), ('GET /metrics HTTP/2.0', 505), ('GET / HTTP/1.10', 505), ('GET /metrics HTTP/1.', 505),
-                         ('GET / HTTP/', 505), ('GET /metrics HTTP/x', 505), ('GET / HTTP/1.1\rstop', 505)):
+                         ('GET / HTTP/', 505), ('GET /metrics HTTP/x', 505), ('GET / HTTP/1.1\rstop', 505), ('HEAD / HTTP/2', 505),
+                         ('HEAD stop HTTP/1.1', 404)):
         for data in with_body(line):
             body = is_page(answer_to(node, data), status, repr(data))
             equal('\ndigbaro_uptime_seconds ' in body if status == 200 else body, status == 200 or '', 'the body of the answer to %r' % data)
+    for path, page in PAGES:
+        for data in with_body('GET %s HTTP/1.1' % path):
+            equal(is_page(answer_to(node, data), 200, repr(data)), page, 'the body of the answer to %r' % data)
     data = 'GET /metrics HTTP/1.1\r\nHost: n\r\n' + GOOD
     is_page(answer_to(node, data, GOOD, GOOD + '\r\n' + GOOD, GOOD), 200, 'a head that comes in pieces')
     equal(answer_to(node, data + 'X: ' + 'x' * 40_000 + '\n' + GOOD), b'refused\n', 'the answer to a line of a head that is too long')
@@ -197,15 +229,16 @@ def no_requests_by_http(trial):
 def browsers(trial):
     """a client of HTTP gets the answer to each of its requests, and changes nothing"""
     node = alone(trial)
-    for method, path, body, status in (('POST', '/', '\n' + GOOD, 405), ('PUT', '/metrics', GOOD, 405), ('OPTIONS', '*', None, 405), ('HEAD', '/metrics', None, 405),
-                                       ('POST', '/', (GOOD * 20_000).encode(), 405), ('POST', '/', iter([GOOD.encode()] * 1000), 405),
-                                       ('GET', '/metrics', GOOD, 200), ('GET', '/', GOOD, 404)):
+    for method, path, body, status in (
+            ('POST', '/', '\n' + GOOD, 405), ('PUT', '/metrics', GOOD, 405), ('OPTIONS', '*', None, 405), ('HEAD', '/metrics', None, 200),
+            ('POST', '/', (GOOD * 20_000).encode(), 405), ('POST', '/', iter([GOOD.encode()] * 1000), 405),
+            ('GET', '/metrics', GOOD, 200), ('GET', '/stop', GOOD, 404)):
         client = http_client.HTTPConnection(node.host, node.admin_port, timeout=5)
         with contextlib.suppress(ConnectionError):
             client.request(method, path, body)
         answer = client.getresponse()
         equal(answer.status, status, 'the status of %s %s' % (method, path))
-        require(b'digbaro_uptime_seconds ' in answer.read() or status != 200, 'the metrics are there')
+        require(b'digbaro_uptime_seconds ' in answer.read() or method != 'GET' or status != 200, 'the metrics are there')
         client.close()
     is_untouched(node, 'all of them')
 
@@ -407,22 +440,67 @@ def long_lines(trial):
 
 @check
 def thirty_three(trial):
-    """of 33 connections 32 are served, and the last is told that the port is busy, until one ends"""
+    """of 33 connections that are idle the one goes that has been idle longest, whatever part of a request it sent, and the others stay"""
     node = alone(trial)
-    others = [node.admin() for _ in range(31)]
-    for admin in others:
+    others = [node.admins] + [node.admin() for _ in range(31)]
+    for admin in others[::-1]:
         equal(admin.ask('get t1 7'), 'none', 'the answer on each of 32 connections')
-    equal(node.admin().rest(3), b'busy\n', 'the answer on one more')
-    others.pop().close()
+        time.sleep(0.01)
+    for more in range(1, 4):
+        oldest = others.pop()
+        oldest.send('get t1')
+        time.sleep(0.1)
+        others.insert(0, node.admin())
+        equal(others[0].ask('get t1 7'), 'none', 'the answer on %d more' % more)
+        equal(oldest.rest(), b'', 'what the one gets that has been idle longest')
+    for admin in others:
+        equal(admin.ask('get t1 7'), 'none', 'the answer on each of the others')
+    is_page(answer_to(node, 'GET /ready HTTP/1.1\r\n\r\n'), 200, 'a client of HTTP')
+    is_untouched(node, 'all of them')
 
-    def served():
-        admin = node.admin()
-        try:
-            admin.send('get t1 7\n')
-            return admin.line() == 'none'
-        except OSError:
-            return False
-    wait(served, 3, 'another connection is served once one has ended')
+
+@check
+def thirty_three_at_work(trial):
+    """while requests of 32 connections are being answered, a further client is told so, one of HTTP by 503, and one is served later"""
+    node = node_of_b(trial)
+    others = [node.admins] + [node.admin() for _ in range(31)]
+    for admin in others:
+        admin.send('track t1 7 add gpc0 1\n')
+    time.sleep(0.2)
+    equal(answer_to(node, ''), b'busy\n', 'the answer to a client that says nothing')
+    equal(answer_to(node, 'get t1 7\n'), b'busy\n', 'the answer to a request')
+    equal(answer_to(node, 'GET /metrics HTT'), b'busy\n', 'the answer to a part of a line')
+    for line in ('GET /metrics HTTP/1.1', 'HEAD / HTTP/1.0', 'POST / HTTP/2'):
+        for behind in ('\r\nHost: n\r\n\r\n', '\n'):
+            equal(is_page(answer_to(node, line + behind), 503, line), '', 'the body of the answer to ' + line)
+    for admin in others:
+        require(admin.line(8).startswith('reply '), 'the track is answered')
+    equal(node.admin().ask('get t1 7').split(' ')[4], '32', 'the answer to one more once there is room')
+
+
+@check
+def idle_clients(trial):
+    """a connection without a request for 60 s ends, whatever bytes come on it meanwhile"""
+    node = alone(trial)
+    silent, slow, half, asks = [node.admin() for _ in range(4)]
+    half.send('GET /metrics HTTP/1.1\r\n')
+    begun = time.monotonic()
+
+    def sleep(until):
+        time.sleep(max(0, begun + until - time.monotonic()))
+    for second in range(1, 55):
+        sleep(second)
+        slow.send('g')
+        half.send('X: %d\r\n' % second)
+        if second == 10:
+            equal(asks.ask('get t1 7'), 'none', 'an answer')
+    sleep(58)
+    equal([admin.is_over() for admin in (silent, slow, half, asks)], [False] * 4, 'connections that are over after 58 s')
+    equal([admin.rest() for admin in (silent, slow, half)], [b''] * 3, 'what idle clients get')
+    between(59.9, time.monotonic() - begun, 62, 'seconds until they are over')
+    sleep(67)
+    equal(asks.ask('get t1 7'), 'none', 'an answer to one that has asked meanwhile')
+    is_untouched(node, 'all of them')
 
 
 @check
@@ -540,6 +618,23 @@ def million_changes(trial):
 
 
 @check
+def many_clients(trial):
+    """30 clients that change each row of 64 tables take little more memory than the first of them"""
+    numbers, rows = range(1, 65), 200
+    node = alone(trial, tables=['table %d t%d integer 4 0 gpc0' % (number, number) for number in numbers])
+    clients = []
+    for place in range(30):
+        clients.append(node.admin())
+        for number in numbers:
+            clients[-1].send(''.join('track t%d %d add gpc0 1\n' % (number, key) for key in range(rows)))
+            last = [clients[-1].line(30) for _ in range(rows)][-1]
+        if place == 0:
+            before = node.memory()
+    equal(last, 'reply %d - %d 30 local' % (30 * rows, rows - 1), 'the last answer')
+    between(0, max(0, node.memory() - before), 16, 'MiB more than after the first client')
+
+
+@check
 def stops_while_it_learns(trial):
     """stop ends a node also before it is up to date, while a track waits"""
     node = node_of_b(trial)
@@ -586,13 +681,57 @@ def metrics(trial):
         wait(lambda: node.metric(name) >= 2, 2, 'bytes are counted', node.metrics)
 
 
+def health(node, method='GET'):
+    """Returns the status and the body of a node's health."""
+    head, body = node.get('/health', method)
+    return int(head.split(' ')[1]), body
+
+
+@check
+def health_of_a_node(trial):
+    """GET /health is 200 once the node is up to date and has a session, and before that 503 with each reason"""
+    equal(health(alone(trial)), (200, 'ok\n'), 'the health of a node without peers')
+    node = node_of_b(trial, peers=('b', 'c'))
+    both, behind, cut_off = ((503, text) for text in ('not up to date\nno peer is up\n', 'not up to date\n', 'no peer is up\n'))
+    equal((health(node), health(node, 'HEAD')), (both, (503, '')), 'the health without a session')
+    far = connected(trial, node, manners=Manners(answer=b''))
+    wait(lambda: node.peer('b')['state'] == 'asking', 2, 'the peer is asked')
+    equal(health(node), behind, 'the health while the node learns')
+    far.send(FINISHED)
+    up_to_date(node)
+    equal((health(node), health(node, 'HEAD')), ((200, 'ok\n'), (200, '')), 'the health with a session')
+    far.close()
+    wait(lambda: node.peer('b')['state'] == 'down', 2, 'the session is over')
+    equal(health(node), cut_off, 'the health once the session is over')
+
+
+@check
+def pages(trial):
+    """the paths of the pages are those of GET /, HEAD has their heads alone, and a query is passed over"""
+    node = alone(trial)
+    heads = {}
+    for path, page in PAGES + (('/metrics', None),):
+        for query in ('', '?', '?x=1', '?a?b/c'):
+            head, body = node.get(path + query)
+            require(body == page or page is None and '\ndigbaro_uptime_seconds ' in body, 'the page at %s%s:' % (path, query), body)
+            heads[path] = head
+        same, none = node.get(path, 'HEAD')
+        equal(none, '', 'the page for HEAD %s' % path)
+        if page is not None:
+            equal(same, heads[path], 'the head of %s' % path)
+    require('Content-Type: text/plain; version=0.0.4' in heads['/metrics'], 'the type of the metrics', heads)
+    equal(node.get('/')[1].split(), ['/metrics', '/health', '/ready'], 'the pages')
+
+
 @check
 def other_pages(trial):
     """any other path is not found"""
     node = alone(trial)
-    for path in ('/', '/metrics/', '/metric', '/metrics?x=1', '/%s' % ('x' * 5000)):
-        head, _ = node.get(path)
-        matches(r'HTTP/1\.[01] 404 .*', head.split('\r\n')[0], 'the status of %s' % path[:20])
+    for path in ('//', '/metrics/', '/metric', '/metrics%3Fx', '/x?/metrics', '?', '/health/', '/Ready', '/%s' % ('x' * 5000)):
+        for method in ('GET', 'HEAD'):
+            head, body = node.get(path, method)
+            matches(r'HTTP/1\.[01] 404 .*', head.split('\r\n')[0], 'the status of %s' % path[:20])
+            equal(body, '', 'its body')
     admin = node.admin()
     admin.send('GET /metrics HTTP/1.0\r\n\r\n')
     require(b' 200 ' in admin.rest().split(b'\r\n')[0], 'HTTP/1.0 is answered')
@@ -684,7 +823,7 @@ def full_tables(trial):
 
 @check
 def rates(trial):
-    """a rate is shown by its value at the moment"""
+    """a rate is shown by the counts of its periods and the moment"""
     node = alone(trial, tables=('table 1 r integer 4 0 gpc0_rate:1000',))
     node.ask('track r 7 rate gpc0_rate 1000')
     time.sleep(1.5)
@@ -692,6 +831,28 @@ def rates(trial):
     between(200, value, 500, 'the rate half a period after the one that counted')
     time.sleep(1)
     equal(entries(node, 'r'), ['key=7 use=0 exp=0 gpc0_rate(1000)=0'], 'the rate two periods later')
+
+
+@check
+def lone_events(trial):
+    """a lone event is shown as a rate of 1 until two periods have passed, and get shows the counts as they are stored"""
+    node = alone(trial, tables=('table 1 r integer 4 0 gpc0_rate:2000',))
+    begun = time.monotonic()
+    for key, count in ((7, 1), (8, 2)):
+        matches(r'reply [12] - %d [0-9]+/%d/0 local' % (key, count), node.ask('track r %d rate gpc0_rate %d' % (key, count)), 'a rate')
+    made = time.monotonic() - begun
+    stored = [node.ask('get r 7'), node.ask('get r 8')]
+
+    def shown(after, *values):
+        time.sleep(max(0, begun + after - time.monotonic()))
+        lines = entries(node, 'r')
+        require(time.monotonic() - begun < after + 0.4 and made < 0.4, 'the check is in time')
+        equal(lines, ['key=%d use=0 exp=0 gpc0_rate(2000)=%d' % row for row in zip((7, 8), values)], 'the rates after %g s' % after)
+        equal([node.ask('get r 7'), node.ask('get r 8')], stored, 'what is stored')
+    shown(1, 1, 2)
+    shown(2.1 + made, 1, 1)
+    shown(3.05 + made, 1, 0)
+    shown(4.05 + made, 0, 0)
 
 
 @check

@@ -159,7 +159,7 @@ def finished_once_up_to_date(trial):
 
 @check
 def asks_the_next(trial):
-    """a node asks one peer at a time, each once, until one ends its resync as finished"""
+    """a node asks one peer at a time, until one ends its resync as finished"""
     node = node_of_b(trial, peers=('b', 'c', 'd'))
     fars = [connected(trial, node, name, KEEPS_QUIET) for name in 'bcd']
     asked = []
@@ -191,13 +191,125 @@ def asks_another_if_one_goes(trial):
     node.shows('digbaro_resyncs_total{peer="b",role="learner",end="broken"}', 1)
 
 
+def asked_by(far, node, times, seconds):
+    """Waits until a node has asked a far side so many times, and returns how long after its start that was."""
+    return far.gets(REQUEST, seconds, times) - node.started
+
+
 @check
-def up_to_date_after_5_seconds(trial):
-    """a node that finds nobody to ask is up to date 5 s after its start"""
+def nobody_to_ask(trial):
+    """a node that finds nobody to ask tracks 5 s after its start, isn't up to date, and asks the first peer that comes"""
     node = node_of_b(trial)
+    equal(node.ask('track t1 7 add gpc0 1'), 'reply 1 - 7 1 local', 'a track')
+    between(4.9, time.monotonic() - node.started, 6.5, 'seconds until it is made')
     equal(node.head()['up_to_date'], 'no', 'up to date')
+    far = connected(trial, node)
+    far.gets(CONFIRMED, 2)
+    up_to_date(node)
+    equal(far.count(REQUEST), 1, 'requests')
+
+
+@check
+def asks_past_the_mute(trial):
+    """a peer that is asked and is mute for 5 s is named in the log, and the next one is asked, also if that is mute too"""
+    node = node_of_b(trial, peers=('b', 'c', 'd'))
+    mute = [connected(trial, node, 'b', KEEPS_QUIET)]
+    first = mute[0].gets(REQUEST, 2)
+    mute.append(connected(trial, node, 'c', KEEPS_QUIET))
+    second = mute[1].gets(REQUEST, 7)
+    between(4.9, second - first, 6, 'seconds until the second is asked')
+    able = connected(trial, node, 'd')
+    between(4.9, able.gets(REQUEST, 7) - second, 6, 'seconds until the third is asked')
+    up_to_date(node)
+    time.sleep(1)
+    equal([far.count(REQUEST) for far in mute + [able]], [1, 1, 1], 'requests')
+    for far in mute + [able]:
+        far.stands()
+    said = node.said()
+    equal([said.count(b'peer %s unanswered\n' % name) for name in (b'b', b'c', b'd')], [1, 1, 0], 'lines of peers that did not answer')
+
+
+@check
+def late_answer(trial):
+    """rows and the end of a resync that come after 5 s count all the same"""
+    node = node_of_b(trial)
+    far = connected(trial, node, manners=KEEPS_QUIET)
+    begun = far.gets(REQUEST, 2)
+    wait(lambda: b'peer b unanswered\n' in node.said(), 7, 'the log says so', node.said)
+    between(4.9, time.monotonic() - begun, 6.5, 'seconds until it does')
+    equal(node.head()['up_to_date'], 'no', 'up to date')
+    there = table(9, 't1')
+    far.send(definition(there) + update(there, 1, 7, (50,)))
+    far.gets_ack(9, 1, 2)
+    equal(node.ask('get t1 7'), 'row 1 - 7 50', 'the row')
+    equal(node.head()['up_to_date'], 'no', 'up to date before the end')
+    far.send(FINISHED)
+    far.gets(CONFIRMED, 2)
+    up_to_date(node)
+    node.shows('digbaro_resyncs_total{peer="b",role="learner",end="finished"}', 1)
+
+
+@check
+def rows_keep_the_wait(trial):
+    """a peer that brings a row every 3 s is waited for, and no other is asked"""
+    node = node_of_b(trial, peers=('b', 'c'))
+    far = connected(trial, node, manners=KEEPS_QUIET)
+    far.gets(REQUEST, 2)
+    other = connected(trial, node, 'c')
+    there = table(9, 't1')
+    far.send(definition(there))
+    for number in range(1, 5):
+        time.sleep(3)
+        far.send(update(there, number, number, (1,)))
+    equal((other.count(REQUEST), b'unanswered' in node.said()), (0, False), 'requests to the other peer, and whether the log gives up')
+    far.send(FINISHED)
+    up_to_date(node)
+    equal(other.count(REQUEST), 0, 'requests to the other peer')
+
+
+@check
+def asks_again_after_a_minute(trial):
+    """peers that didn't answer finished are asked again after a minute, until one does"""
+    node = node_of_b(trial, peers=('b', 'c'))
+    mute = connected(trial, node, 'b', KEEPS_QUIET)
+    first = asked_by(mute, node, 1, 2)
+    partial = connected(trial, node, 'c', Manners(answer=PARTIAL))
+    other = asked_by(partial, node, 1, 7)
+    between(59.9, asked_by(mute, node, 2, 70) - first, 64, 'seconds until the mute one is asked again')
+    equal(node.head()['up_to_date'], 'no', 'up to date')
+    partial.manners = Manners()
+    between(59.9, asked_by(partial, node, 2, 12) - other, 70, 'seconds until the other one is asked again')
+    up_to_date(node)
+    equal((mute.count(REQUEST), partial.count(REQUEST)), (2, 2), 'requests')
+
+
+@check
+def all_partial(trial):
+    """a node of which all peers answer partial is up to date at once, and one of which some are away 5 s after its start"""
+    node = node_of_b(trial, peers=('b', 'c'))
+    far = connected(trial, node, 'b', Manners(answer=PARTIAL))
+    far.gets(CONFIRMED, 2)
+    equal(node.head()['up_to_date'], 'no', 'up to date while c is away')
     wait(node.is_up_to_date, 7, 'the node is up to date')
     between(4.9, time.monotonic() - node.started, 6.5, 'seconds until it is')
+    node = node_of_b(trial, peers=('b', 'c'))
+    for name in 'bc':
+        connected(trial, node, name, Manners(answer=PARTIAL)).gets(CONFIRMED, 2)
+    wait(node.is_up_to_date, 2, 'the node is up to date', node.said)
+
+
+@check
+def asked_on_the_next_session(trial):
+    """a peer whose session breaks while it is asked is asked again on its next one"""
+    node = node_of_b(trial)
+    for _ in range(2):
+        far = connected(trial, node, manners=KEEPS_QUIET)
+        far.gets(REQUEST, 2)
+        far.close()
+        wait(lambda: node.peer('b')['state'] == 'down', 2, 'the session is over')
+    connected(trial, node).gets(CONFIRMED, 2)
+    up_to_date(node)
+    node.shows('digbaro_resyncs_total{peer="b",role="learner",end="broken"}', 2)
 
 
 @check

@@ -236,6 +236,22 @@ def bytes_are_enough(trial):
 
 
 @check
+def a_byte_a_second(trial):
+    """a far side that sends a byte a second of a long message is no silent one"""
+    node = node_of_b(trial, tables=('table 1 st string 33 0 gpc0',))
+    far = connected(trial, node, manners=Manners(beats=False))
+    up_to_date(node)
+    there = table(77, 'st', 'string')
+    far.send(definition(there))
+    for byte in update(there, 1, b'k' * 8, (1,)):
+        far.send(bytes((byte,)))
+        time.sleep(1)
+    far.gets_ack(77, 1)
+    far.stands()
+    equal((node.peer('b')['sessions'], node.ask('get st =kkkkkkkk')), ('1', 'row 1 - =kkkkkkkk 1'), 'sessions, and the row')
+
+
+@check
 def error_messages(trial):
     """an error message ends a session, and so do a close and a reset"""
     node = node_of_b(trial)

@@ -23,18 +23,26 @@ def ends(trial, words, text, status, errors):
     equal((run.returncode, run.stdout, run.stderr), wanted, '%s with %r' % (' '.join(words), text[-200:]))
 
 
+def refused(trial, words, text, heads):
+    """Returns the lines on standard error, which say that a configuration is refused and begin so."""
+    run = subprocess.run([trial.program, *words], input=text, capture_output=True, timeout=PATIENCE, check=False)
+    lines = run.stderr.splitlines()
+    equal((run.returncode, run.stdout, [line.split(b': ')[0] for line in lines]), (1, b'', heads), '%s with %r' % (' '.join(words), text[-200:]))
+    return lines
+
+
 @check
 def refused_configurations(trial):
     """a configuration that breaks a rule is refused, with --check and without"""
     good = NEEDED % trial.ports.next()
-    for text, line in ((b'', None), (b'# nothing\n\n', None), (b'node n\n' + T1.encode() + b'\n', None), (b'nod m\nnode n\n' + T1.encode() + b'\n', None),
-                       (good[:-1], 3), (good + b'nod m\n', 4),
-                       (good + b'node m\n', 4), (good + b'admin 10.0.0.1:9\n', 4), (good + b'admin 127.0.0.1:0\n', 4), (good + b'peer n\n', 4),
-                       (good + b'peer b localhost:9\n', 4), (good + b'size 2 5\n', 4), (good + b'\n#\nsize 1 0\n', 6),
-                       (good + b'moment 4294967296\n', 4), (good + b'table 2147483648 t2 integer 4 0\n', 4), (good + b'peer b\r\n', 4)):
-        errors = b'configuration: refused\n' if line is None else b'line %d: refused\n' % line
-        for words in (('run',), ('run', '--check')):
-            ends(trial, words, text, 1, errors)
+    for text, heads in ((b'', [None] * 3), (b'# nothing\n\n', [None] * 3), (b'node n\n' + T1.encode() + b'\n', [None]),
+                        (b'nod m\nnode n\n' + T1.encode() + b'\n', [1, None]), (good + b'nod m\nnode m\n', [4, 5]),
+                        (good + b'node m\n', [4]), (good + b'admin 10.0.0.1:9\n', [4]), (good + b'admin 127.0.0.1:0\n', [4]), (good + b'peer n\n', [4]),
+                        (good + b'peer b localhost:9\n', [4]), (good + b'size 2 5\n', [4]), (good + b'\n#\nsize 1 0\n', [6]),
+                        (good + b'moment 4294967296\n', [4]), (good + b'table 2147483648 t2 integer 4 0\n', [4]), (good + b'peer b\r\r\n', [4])):
+        wanted = [b'configuration' if line is None else b'line %d' % line for line in heads]
+        errors = [refused(trial, words, text, wanted) for words in (('run',), ('run', '--check'))]
+        equal(errors[0], errors[1], 'run and run --check with %r' % text[-200:])
 
 
 @check

@@ -1,6 +1,10 @@
 mod Chains
+mod FirstLines
 mod HttpLines
+mod IdleLaws
 mod LineWords
+mod NoKeys
 mod NoRequests
 mod OneRequest
+mod Targets
 mod Words

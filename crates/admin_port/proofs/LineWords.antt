@@ -7,10 +7,10 @@ use Rattle.std.proofs.lemmas.List.{append_assoc}
 use Rattle.std.proofs.lemmas.List.Elements.{Contains-append_right}
 use Rattle.admin_port.specs.RequestWords.{is_word, line_words, with_byte}
 
-here : (b : ℕ) (xs : List ℕ) → Contains (b ∷ xs) b
+pub here : (b : ℕ) (xs : List ℕ) → Contains (b ∷ xs) b
 here b xs = (0, omega arith, refl)
 
-later : (x b : ℕ) (xs : List ℕ) → Contains xs b → Contains (x ∷ xs) b
+pub later : (x b : ℕ) (xs : List ℕ) → Contains xs b → Contains (x ∷ xs) b
 later x b xs has = Contains-append_right (x ∷ []) xs b has
 
 byte_before : (b : ℕ) (xs : List ℕ) (words : List (List ℕ)) → (Contains (b ∷ xs) 32 → ⊥)

@@ -1,13 +1,13 @@
 -- Words that are no request.
 use Rattle.std.proofs.Common.{◌≡◌, ◌∙◌, ◌==◌, ◌&&◌, Bool, true, false, ℕ, List, [], ◌∷◌, ◌<◌, ap, arith, length, refl, subst, sym}
-use Rattle.std.specs.Prelude.{None, Option, codes}
+use Rattle.std.specs.Prelude.{Option, codes}
 use Rattle.std.specs.List.{list_all}
 use Rattle.table_types.specs.declared.change.Change.{Change}
 use Rattle.table_types.specs.declared.key.Key.{Key}
 use Rattle.table_types.specs.Tables.{Definition}
-use Rattle.node_text.specs.Calls.{any_key_of}
 use Rattle.node_text.specs.Changes.{IsChange}
 use Rattle.node_text.specs.Words.{is_text}
+use Rattle.admin_port.specs.RequestKeys.{IsNoKey}
 use Rattle.admin_port.specs.RequestWords.{is_word, line_words}
 use Rattle.admin_port.specs.Requests.{IsNoRequest, IsNoRequestLine, IsNoRow, IsRequest, IsRow, kind_of}
 use Rattle.admin_port.specs.TableNames.{table_named}
@@ -193,10 +193,10 @@ some_to_stop section tables words count requests.Stop same = let all : words ≡
 
 -- a text that names a table, and a word that is no key of it
 pub no_key : (section : Option (List ℕ)) (tables : List Definition) (table word : List ℕ)
-    → any_key_of (kind_of (table_named section tables table)) word ≡ None
+    → IsNoKey (kind_of (table_named section tables table)) word
     → IsNoRow section tables table word
-unfolding IsNoRow
-no_key section tables table word none id key ((text, is), written) = absurd (cc)
+unfolding IsNoKey IsNoRow
+no_key section tables table word none id key ((text, is), written) = none key written
 
 -- a word that names no table
 pub no_text : (section : Option (List ℕ)) (tables : List Definition) (table word : List ℕ) → is_text table ≡ false

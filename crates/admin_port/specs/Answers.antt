@@ -12,6 +12,8 @@ use Rattle.table_cell.specs.declared.events.Reply.{Reply}
 use Rattle.node_text.specs.Refusals.{track_refusal}
 use Rattle.node_text.specs.Replies.{reply_text}
 use Rattle.node_text.specs.Rows.{row_line}
+use Rattle.admin_port.specs.HttpRequests.{begins_http}
+use Rattle.admin_port.specs.Pages.{too_many_clients}
 use Rattle.admin_port.specs.RequestWords.{line_words}
 use Rattle.admin_port.specs.declared.answers.Answer.{Answer}
 use Rattle.admin_port.specs.declared.answers.Answer.TheVariants as answers
@@ -42,6 +44,12 @@ is_show line = begins_with (codes "show") (line_words line)
 -- a listing is ended even then
 abbrev pub refused_text : List ℕ → List ℕ
 refused_text line = answer_line answers.Refused ++ (if is_show line then answer_line answers.End else [])
+
+-- ---- clients that are too many
+
+-- what a client is told that is too many and sent these bytes: `busy`, unless it speaks HTTP
+abbrev pub too_many_text : List ℕ → List ℕ
+too_many_text begun = if begins_http begun then too_many_clients else answer_line answers.Busy
 
 -- ---- rows
 

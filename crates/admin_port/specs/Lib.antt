@@ -1,13 +1,16 @@
 pub mod Answers
 pub mod HttpRequests
+pub mod Idle
 pub mod Metrics
 pub mod Pages
 pub mod PeerMetrics
 pub mod Reports
+pub mod RequestKeys
 pub mod RequestWords
 pub mod Requests
 pub mod Samples
 pub mod ShownKeys
+pub mod ShownRates
 pub mod ShownTables
 pub mod TableMetrics
 pub mod TableNames

@@ -5,9 +5,9 @@ use Rattle.table_types.specs.declared.key.Key.{Key}
 use Rattle.table_types.specs.declared.key.KeyKind.{KeyKind}
 use Rattle.table_types.specs.declared.key.KeyKind.TheVariants as kinds
 use Rattle.table_types.specs.Tables.{Definition}
-use Rattle.node_text.specs.Calls.{any_key_of}
 use Rattle.node_text.specs.Changes.{IsChange}
 use Rattle.node_text.specs.Words.{is_text}
+use Rattle.admin_port.specs.RequestKeys.{IsKey}
 use Rattle.admin_port.specs.RequestWords.{is_word, line_words}
 use Rattle.admin_port.specs.TableNames.{table_named}
 use Rattle.admin_port.specs.declared.requests.Request.{Request}
@@ -28,10 +28,10 @@ kind_of (Some table) = table.kind
 abbrev pub IsTable : Option (List ℕ) → List Definition → List ℕ → Option ℕ → Type 0
 IsTable section tables word id = (is_text word ≡ true) × (id ≡ id_of (table_named section tables word))
 
--- a table, and a key as a script of that table has it
+-- a table, and a key as a script of that table has it, or an address
 abbrev pub IsRow : Option (List ℕ) → List Definition → List ℕ → List ℕ → Option ℕ → Key → Type 0
 IsRow section tables table word id key =
-    IsTable section tables table id × (any_key_of (kind_of (table_named section tables table)) word ≡ Some key)
+    IsTable section tables table id × IsKey (kind_of (table_named section tables table)) word key
 
 -- ---- requests
 

@@ -8,12 +8,12 @@ use Rattle.table_types.specs.declared.key.KeyKind.TheVariants as kinds
 use Rattle.table_types.specs.declared.row.Cell.{Cell}
 use Rattle.table_types.specs.declared.row.Cell.TheVariants as cells
 use Rattle.table_types.specs.DataTypes.{name_of}
-use Rattle.table_types.specs.Rotation.{rate_at}
 use Rattle.table_types.specs.Rows.{StoredRow}
 use Rattle.table_types.specs.Tables.{Definition}
 use Rattle.table_types.specs.Updates.{is_name_type}
 use Rattle.table_rows.specs.Rows.{is_live}
 use Rattle.admin_port.specs.ShownKeys.{shown_byte, shown_key}
+use Rattle.admin_port.specs.ShownRates.{shown_rate}
 use Rattle.admin_port.specs.TableNames.{shown_name}
 
 -- ---- headers
@@ -40,7 +40,7 @@ period_text (Some period) = codes "(" ++ (decimal period ++ codes ")")
 
 -- the value of a cell at a moment: that of a rate with a period, or a count
 abbrev pub value_at : ℕ → Option ℕ → Cell → ℕ
-value_at now (Some period) cell = rate_at period now cell
+value_at now (Some period) cell = shown_rate period now cell
 value_at now None (cells.Count count) = count
 value_at now None (cells.Rate start current previous) = current
 

@@ -3,9 +3,11 @@ ghost use Rattle.std.specs.Prelude.{◌≡◌, ◌++◌, OnOk, Err, None, flat_m
 ghost use Rattle.table_cell.specs.declared.errors.TrackError.{TrackError};
 ghost use Rattle.node_text.specs.Refusals.{track_refusal};
 ghost use Rattle.node_text.specs.Rows.{row_line};
-ghost use Rattle.admin_port.specs.Answers.{answer_line, answer_word, found_text, is_show, refused_text, tracked_text};
+ghost use Rattle.admin_port.specs.Answers.{answer_line, answer_word, found_text, is_show, refused_text, too_many_text, tracked_text};
 
+use crate::http_requests::begins_http;
 use crate::lines::{push_line_end, push_words};
+use crate::pages::push_too_many_clients;
 use node_text::{cut, push_reply, push_row, track_refusal};
 use std::alloc::AllocError;
 use table_cell::{Reply, TrackError};
@@ -76,6 +78,18 @@ fn is_show(line: &[u8]) -> bool
     match cut(line, b' ') {
         Some((word, _)) => is_same_name(word, b"show"),
         None => is_same_name(line, b"show"),
+    }
+}
+
+/// Appends the answer to a client that is too many: `busy`, or 503 if what it has sent so far, `begun`, has the first line of an HTTP
+/// request. The connection is closed behind it.
+pub fn push_too_many(text: &mut Vec<u8>, begun: &[u8]) -> Result<(), AllocError>
+    ensures { OnOk result (text.new.items ≡ text.old.items ++ too_many_text begun.now) }
+{
+    if begins_http(begun) {
+        push_too_many_clients(text)
+    } else {
+        push_answer(text, Answer::Busy)
     }
 }
 

@@ -4,6 +4,7 @@
 
 mod answers;
 mod http_requests;
+mod idle;
 mod laws;
 mod lines;
 mod metric_families;
@@ -11,20 +12,26 @@ mod metrics_pages;
 mod pages;
 mod peer_metrics;
 mod reports;
+mod request_keys;
 mod request_words;
 mod requests;
 mod samples;
 mod shown_keys;
+mod shown_rates;
 mod shown_tables;
 mod table_metrics;
 mod table_names;
 
-pub use answers::{Answer, push_answer, push_found, push_refused, push_rows, push_tracked};
-pub use http_requests::{HttpRequest, read_http_request};
-pub use laws::one_request;
+pub use answers::{
+    Answer, push_answer, push_found, push_refused, push_rows, push_too_many, push_tracked,
+};
+pub use http_requests::{HttpRequest, Page, read_http_request};
+pub use idle::{is_idle_too_long, longest_idle};
+pub use laws::{lone_event, one_request, rates_at_borders};
 pub use metrics_pages::{FaultCount, Metrics, NodeMetrics, PassedOver, metrics_page};
 pub use pages::{
-    push_method_not_allowed, push_missing_page, push_page, push_version_not_supported,
+    Extent, Health, push_health, push_method_not_allowed, push_metrics, push_missing_page,
+    push_overview, push_ready, push_version_not_supported,
 };
 pub use peer_metrics::{PeerMetrics, ResyncsEnded, SessionsEnded};
 pub use reports::{

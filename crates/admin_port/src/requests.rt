@@ -5,10 +5,11 @@ ghost use Rattle.admin_text.specs.TableSettings.{definitions};
 ghost use Rattle.node_text.specs.Words.{is_text};
 ghost use Rattle.table_types.specs.Tables.{Definition};
 
+use crate::request_keys::request_key;
 use crate::request_words::request_words;
 use crate::table_names::table_named;
 use admin_text::TableSetting;
-use node_text::{LineError, any_key_of, change_of, is_text};
+use node_text::{LineError, change_of, is_text};
 use std::alloc::Global;
 use table_types::{Change, Key, KeyKind, Name};
 
@@ -255,7 +256,7 @@ fn row_of(
         return Err(LineError::Refused);
     }
     match table_named(section, tables, table) {
-        Some(table) => Ok((Some(table.id()), any_key_of(alloc, table.kind(), key)?)),
-        None => Ok((None, any_key_of(alloc, KeyKind::Binary, key)?)),
+        Some(table) => Ok((Some(table.id()), request_key(alloc, table.kind(), key)?)),
+        None => Ok((None, request_key(alloc, KeyKind::Binary, key)?)),
     }
 }

@@ -6,11 +6,12 @@ ghost use Rattle.admin_port.specs.ShownTables.{left_at, live_line, period_text, 
 
 use crate::lines::{push_field, push_line_end, push_words};
 use crate::shown_keys::{push_escaped, push_shown_key};
+use crate::shown_rates::shown_rate;
 use crate::table_names::push_table_name;
 use node_text::{push_number, push_word_and_number};
 use std::alloc::{AllocError, Global};
 use table_rows::is_live;
-use table_types::{Cell, DataType, Key, KeyKind, Moment, Name, Row, Shape, TableDef, read_rate};
+use table_types::{Cell, DataType, Key, KeyKind, Moment, Name, Row, Shape, TableDef};
 
 /// Returns HAProxy's word for a kind of keys.
 pub(crate) fn shown_kind(kind: KeyKind) -> &'static str
@@ -171,7 +172,7 @@ fn value_at(cell: Cell, period: Option<u32>, moment: Moment) -> u64
     ensures { result ≡ value_at moment period cell }
 {
     match (period, cell) {
-        (Some(period), cell) => read_rate(cell, period, moment),
+        (Some(period), cell) => shown_rate(cell, period, moment),
         (None, Cell::Count(count)) => count,
         (None, Cell::Rate { current, .. }) => u64::from(current),
     }

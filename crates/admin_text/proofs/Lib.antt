@@ -1,4 +1,7 @@
 mod AddressTexts
-mod FirstWordLaws
+mod FirstNamed
 mod PeerNames
+mod RefusalLaws
+mod StatementLaws
 mod Tables
+mod TypeWords

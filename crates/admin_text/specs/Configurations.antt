@@ -1,15 +1,10 @@
 -- What a configuration says (profile).
-use Rattle.std.specs.Prelude.{◌≤◌, ◌==◌, ◌&&◌, ℕ, Bool, List, not, Some, IfSome, codes, is_some, length}
-use Rattle.node_text.specs.declared.error.SceneError.{SceneError}
-use Rattle.node_text.specs.declared.error.SceneError.TheVariants as lines
+use Rattle.std.specs.Prelude.{◌≤◌, ◌==◌, ◌&&◌, Bool, not, Some, IfSome, is_some, length}
 use Rattle.admin_text.specs.Addresses.{IsAddress, IsLocal}
-use Rattle.admin_text.specs.FirstWords.{has_line}
 use Rattle.admin_text.specs.Peers.{AreNamed, IsLabel}
 use Rattle.admin_text.specs.TableSettings.{AreTables}
 use Rattle.admin_text.specs.declared.configurations.Configuration.{Configuration}
 use Rattle.admin_text.specs.declared.configuration_lines.ConfigurationSoFar.{ConfigurationSoFar}
-use Rattle.admin_text.specs.declared.error.ConfigurationError.{ConfigurationError}
-use Rattle.admin_text.specs.declared.error.ConfigurationError.TheVariants.{Line, Configuration as Missing, Memory}
 
 -- node, peers and section have names, no two of node and peers the same; the addresses have ports and no zone, and the one for
 -- requests is a loopback address; there are at most 15 peers, and 1 to 64 tables with distinct ids and names
@@ -32,13 +27,3 @@ pub record IsSoFar (s : ConfigurationSoFar) : Type 0 where
 -- the node's name, where it listens, and a table have come
 abbrev pub is_whole : ConfigurationSoFar → Bool
 is_whole s = is_some s.node && (is_some s.listen && not (length s.tables.items == 0))
-
--- the text has no line `node`, none `listen`, or none `table`, not even a refused one
-abbrev pub lacks_line : List ℕ → Bool
-lacks_line text = not (has_line text (codes "node") && (has_line text (codes "listen") && has_line text (codes "table")))
-
--- why the lines are refused
-abbrev pub of_lines : SceneError → ConfigurationError
-of_lines (lines.Line number) = Line number
-of_lines lines.Scene = Missing
-of_lines lines.Memory = Memory

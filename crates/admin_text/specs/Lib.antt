@@ -1,5 +1,11 @@
 pub mod Addresses
+pub mod Before
 pub mod Configurations
-pub mod FirstWords
+pub mod LineFaults
+pub mod LineKinds
+pub mod NameFaults
 pub mod Peers
+pub mod Refusals
+pub mod Statements
+pub mod TableFaults
 pub mod TableSettings

@@ -6,7 +6,7 @@ use crate::addresses::{read_address, read_local_address};
 use crate::configurations::Configuration;
 use crate::peers::{Peer, read_node, read_peer};
 use crate::table_settings::{TableSetting, read_setting, read_table};
-use node_text::{LineError, LineReader, name, set_once, words_of};
+use node_text::{LineError, name, set_once};
 use std::alloc::Global;
 use std::net::SocketAddr;
 use table_types::Name;
@@ -22,19 +22,6 @@ pub(crate) struct ConfigurationSoFar {
     tables: Vec<TableSetting>,
 }
 
-impl LineReader for ConfigurationSoFar {
-    ghost is_sound = { λ _ lines. IsSoFar lines };
-
-    /// Reads a line. After a refusal what was read must not be used.
-    fn read_line(&mut self, alloc: Global, _number: usize, line: &[u8]) -> Result<(), LineError> {
-        let words = words_of(alloc, line)?;
-        match words.as_slice() {
-            [] => Ok(()),
-            [kind, words @ ..] => self.read_words(alloc, kind, words),
-        }
-    }
-}
-
 impl ConfigurationSoFar {
     /// Returns what no lines say.
     pub(crate) fn new(alloc: Global) -> ConfigurationSoFar
@@ -48,6 +35,16 @@ impl ConfigurationSoFar {
             peers: Vec::new(alloc),
             tables: Vec::new(alloc),
         }
+    }
+
+    /// Reads a line, from its words. After a refusal what was read must not be used.
+    pub(crate) fn read_line(&mut self, alloc: Global, words: &[&[u8]]) -> Result<(), LineError>
+        ensures { IsSoFar self.old → IsSoFar self.new }
+    {
+        let [kind, words @ ..] = words else {
+            return Ok(());
+        };
+        self.read_words(alloc, kind, words)
     }
 
     /// Reads a line, from its first word and those after it.

@@ -1,17 +1,19 @@
 //! Configurations: what a node that stays is told when it starts.
-ghost use Rattle.std.specs.Prelude.{◌≡◌, ℕ, Err, IfOk, true};
-ghost use Rattle.node_text.specs.Scripts.{IsLineOf, line_count};
-ghost use Rattle.admin_text.specs.Configurations.{IsConfiguration, lacks_line};
+ghost use Rattle.std.specs.Prelude.{◌≡◌, Err, IfOk, OnOk, true};
+ghost use Rattle.admin_text.specs.Configurations.{IsConfiguration};
+ghost use Rattle.admin_text.specs.Refusals.{IsFaultless, IsRefusalOf, names_fault};
+ghost use Rattle.admin_text.specs.Statements.{statements_of};
+ghost use Rattle.admin_text.specs.declared.refusals.Refusal.{Refusal};
 
 use crate::configuration_lines::ConfigurationSoFar;
 use crate::error::ConfigurationError;
-use crate::first_words::has_line;
 use crate::peers::Peer;
+use crate::refusals::refusal_of;
+use crate::statements::{Statement, statements_of};
 use crate::table_settings::TableSetting;
-use node_text::read_lines;
 use std::alloc::Global;
 use std::net::SocketAddr;
-use table_types::Name;
+use table_types::{Memory, Name};
 
 /// What a configuration says.
 #[derive(Debug, Drop)]
@@ -30,27 +32,35 @@ pub struct Configuration {
     pub tables: Vec<TableSetting>,
 }
 
-/// Returns whether `text` has no line whose first word is `node`, none with `listen`, or none with `table`.
-fn lacks_line(text: &[u8]) -> bool
-    ensures { result ≡ lacks_line text.now }
-{
-    !(has_line(text, b"node") && has_line(text, b"listen") && has_line(text, b"table"))
-}
-
-/// Reads a configuration, line by line.
+/// Reads a configuration.
 ///
-/// Each line ends with LF. An empty line and one that begins with `#` say nothing. `Configuration` comes first, and means that no
-/// line begins with the word `node`, none with `listen`, or none with `table`. Otherwise `Line` names the first line that breaks a
-/// rule or a limit.
+/// Each line ends with LF, before which a CR may stand; the last may lack both. Any spaces and tabs stand between words, before the
+/// first and behind the last; `#` begins a comment where a word could begin, and a line without words says nothing. A line is judged
+/// by its words and by those of the lines before it, whether these are refused or not.
 pub fn read_configuration(alloc: Global, text: &[u8]) -> Result<Configuration, ConfigurationError>
     ensures configuration { IfOk result IsConfiguration }
-    ensures lacking { lacks_line text.now ≡ true → result ≡ Err ConfigurationError.Configuration }
-    ensures line { (number : ℕ) → result ≡ Err (ConfigurationError.Line number) → IsLineOf (line_count text.now) number }
+    ensures faultless { OnOk result (IsFaultless (statements_of text.now)) }
+    ensures refused { (refusal : Refusal) → result ≡ Err (ConfigurationError.Refused refusal) → IsRefusalOf (statements_of text.now) refusal }
+    ensures faulty { (refusal : Refusal) → result ≡ Err (ConfigurationError.Refused refusal) → names_fault refusal ≡ true }
 {
-    if lacks_line(text) {
-        return Err(ConfigurationError::Configuration);
+    let lines = statements_of(alloc, text)?;
+    let refusal = refusal_of(alloc, lines.as_slice())?;
+    if refusal.names_fault() {
+        return Err(ConfigurationError::Refused(refusal));
     }
-    let mut lines = ConfigurationSoFar::new(alloc);
-    read_lines(alloc, text, &mut lines)?;
-    lines.whole().ok_or(ConfigurationError::Configuration)
+    Ok(configuration_of(alloc, lines.as_slice())?)
+}
+
+/// Reads lines of which none is refused and none lacks.
+fn configuration_of(alloc: Global, lines: &[Statement<'_>]) -> Result<Configuration, Memory>
+    ensures { IfOk result IsConfiguration }
+{
+    let mut so_far = ConfigurationSoFar::new(alloc);
+    for line in lines {
+        // A line without a fault is refused only for want of memory.
+        if so_far.read_line(alloc, line.words.as_slice()).is_err() {
+            return Err(Memory);
+        }
+    }
+    so_far.whole().ok_or(Memory)
 }

@@ -1,32 +1,26 @@
-//! Why a configuration is refused.
+//! Why a configuration isn't read.
 ghost use Rattle.std.specs.Prelude.{◌≡◌};
-ghost use Rattle.admin_text.specs.Configurations.{of_lines};
+ghost use Rattle.admin_text.specs.declared.error.ConfigurationError.TheVariants as errors;
 
-use node_text::SceneError;
+use crate::refusals::Refusal;
+use table_types::Memory;
 use thiserror::Error;
 
 /// Why a configuration wasn't read. What was read of it is dropped.
-#[derive(Clone, Copy, Debug, PartialEq, Eq, Error)]
+#[derive(Debug, Drop, Error)]
 pub enum ConfigurationError {
-    /// The text has a line of each kind that it needs, and its first line that breaks a rule or a limit has this number, from 1.
-    #[error("line {0}: refused")]
-    Line(usize),
-    /// No line's first word is `node`, or none's is `listen`, or none's is `table`, whatever else is wrong.
-    #[error("configuration: refused")]
-    Configuration,
+    /// A line is refused, or one lacks.
+    #[error("the configuration is refused")]
+    Refused(Refusal),
     /// Memory ran out.
     #[error("memory")]
     Memory,
 }
 
-impl From<SceneError> for ConfigurationError {
-    ghost from_gives = { λ error e. e ≡ of_lines error };
+impl From<Memory> for ConfigurationError {
+    ghost from_gives = { λ _ error. error ≡ errors.Memory };
 
-    fn from(error: SceneError) -> ConfigurationError {
-        match error {
-            SceneError::Line(number) => ConfigurationError::Line(number),
-            SceneError::Scene => ConfigurationError::Configuration,
-            SceneError::Memory => ConfigurationError::Memory,
-        }
+    fn from(_refused: Memory) -> ConfigurationError {
+        ConfigurationError::Memory
     }
 }

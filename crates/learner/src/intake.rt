@@ -137,7 +137,7 @@ impl Intake {
     }
 
     /// Does the same as `look_at`, with the unread bytes.
-    fn look(&self) -> Result<Option<(TakenRef<'_>, Advance)>, Fault>
+    pub fn look(&self) -> Result<Option<(TakenRef<'_>, Advance)>, Fault>
         ensures looks { Looks self.now result }
     {
         self.look_at(self.unread.as_slice())

@@ -10,6 +10,9 @@ use Rattle.peers_msg.specs.contracts.unread.Unread as Unread
 use Rattle.peers_msg.specs.contracts.unread.Unread.TheInside as unread
 use Rattle.peers_hello.specs.contracts.hello.Hello as Hello
 use Rattle.learner.specs.contracts.intake.Intake as Intake
+use Rattle.tolerant_intake.specs.contracts.loose_table.LooseTable as LooseTable
+use Rattle.tolerant_intake.specs.contracts.tolerance.Tolerance as Tolerance
+use Rattle.tolerant_intake.specs.contracts.reader.Reader as Reader
 use Rattle.session_core.specs.contracts.phase.Greeter as Greeter
 use Rattle.session_core.specs.contracts.phase.Stage as Stage
 use Rattle.session_core.specs.contracts.course.Course as Course
@@ -38,6 +41,15 @@ unread_send = view_send _ _ _ _ _ (declared_send unread.the_type (buffer.the_sen
 intake_send : IsSend (Intake.the_field).row
 intake_send = search (roster_send, state_send, unread_send, sendable, crosses, sets) depth 80 fits 20000
 
+loose_table_send : IsSend (LooseTable.the_field).row
+loose_table_send = search (sendable, crosses) depth 80 fits 20000
+
+tolerance_send : IsSend (Tolerance.the_field).row
+tolerance_send = search (loose_table_send, sendable, crosses, sets) depth 80 fits 20000
+
+reader_send : IsSend (Reader.the_field).row
+reader_send = search (intake_send, tolerance_send, sendable, crosses) depth 80 fits 20000
+
 greeter_send : IsSend (Greeter.the_field).row
 greeter_send = search (sendable, crosses) depth 80 fits 20000
 
@@ -45,7 +57,7 @@ stage_send : IsSend (Stage.the_field).row
 stage_send = search (hello_send, greeter_send, sendable, crosses) depth 80 fits 20000
 
 course_send : IsSend (Course.the_field).row
-course_send = search (intake_send, sendable, crosses) depth 80 fits 20000
+course_send = search (reader_send, sendable, crosses) depth 80 fits 20000
 
 machine_send : IsSend (Machine.the_field).row
 machine_send = search (stage_send, course_send, known_send, sendable, crosses) depth 80 fits 20000

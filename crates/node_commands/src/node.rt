@@ -281,7 +281,8 @@ impl Node {
 
     /// Makes the node `name` that connects to `peer`. Reads a scene from `input`: the node has the scene's tables, without rows.
     /// Its session isn't up to date: it requests a resync, and ends once it has confirmed it. It says version 2.1, and has another
-    /// session ready that says 2.0. Fails as `serving` does.
+    /// session ready that says 2.0. Fails as `serving` does. It isn't inlined, since its frame is large.
+    #[inline(never)]
     pub fn joining<H: Wait, I: Read + Faults>(
         rt: &H,
         alloc: Global,

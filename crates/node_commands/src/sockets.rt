@@ -79,7 +79,9 @@ fn met<H: Wait>(
     }
 }
 
-/// Runs a node's first session over `stream`, and closes it. Fails with `Device` if there is no connection.
+/// Runs a node's first session over `stream`, and closes it. Fails with `Device` if there is no connection. It isn't inlined, since
+/// its frame is large.
+#[inline(never)]
 fn met_first<H: Wait>(
     rt: &H,
     alloc: Global,

@@ -1,13 +1,15 @@
 //! Writing all of some bytes to a device.
-ghost use Rattle.std.specs.Prelude.{◌≡◌, ℕ, ◌<◌, IfErr, OnOk, length, take};
+ghost use Rattle.std.specs.Prelude.{◌≡◌, ℕ, ◌<◌, IfErr, OnErr, OnOk, length, take};
 ghost use Rattle.std.specs.Io.KnownBytes.{Appends};
 ghost use Rattle.peers_devices.specs.Failures.{Rose, sent_of};
+ghost use Rattle.peers_devices.specs.Writing.{AreWritten, BalksBy, written};
 
-use crate::devices::{Faults, rose};
+use crate::devices::Faults;
+use crate::writes::{Unwritten, Writes, write_once};
 use std::io::Write;
 use thiserror::Error;
 
-/// The most writes that may fail without being counted before `write_all` gives up.
+/// The most writes that may fail without being counted before a writer is given up.
 const MOST_RETRIES: u32 = 1_000_000;
 
 /// Why not all bytes were written. Exactly the first `sent` of them were, and at least one wasn't.
@@ -36,17 +38,34 @@ pub fn write_all<W: Write + Faults>(output: &mut W, bytes: &[u8]) -> Result<(), 
     ensures sent { IfErr result (λ error. Appends (W.contents output.old) (W.contents output.new) (take (sent_of error) bytes.now)) }
     ensures within { IfErr result (λ error. sent_of error < length bytes.now) }
 {
+    let mut writes = Writes::none();
+    write_all_counted(output, &mut writes, bytes)
+}
+
+/// Writes all of the bytes, and adds what the writes came to to `writes`. So an error comes only if a write failed and was counted
+/// (`Failed`), or took none of its bytes, or more than a million writes failed without being counted (`Stuck`).
+///
+/// Retries a write that fails without being counted, as an interrupted one may.
+pub fn write_all_counted<W: Write + Faults>(
+    output: &mut W,
+    writes: &mut Writes,
+    bytes: &[u8],
+) -> Result<(), WriteError>
+    ensures ok { OnOk result (AreWritten (written (W.contents output.old) writes.old) (written (W.contents output.new) writes.new) bytes.now) }
+    ensures sent { IfErr result (λ error. AreWritten (written (W.contents output.old) writes.old) (written (W.contents output.new) writes.new) (take (sent_of error) bytes.now)) }
+    ensures within { IfErr result (λ error. sent_of error < length bytes.now) }
+    ensures failed { (sent : ℕ) → result ≡ Err (WriteError.Failed sent) → Rose (W.failed output.old) (W.failed output.new) }
+    ensures balks { IfErr result (λ error. BalksBy error (written (W.contents output.old) writes.old) (written (W.contents output.new) writes.new)) }
+{
     let earlier = output.failures();
     let mut sent = 0;
     let mut retries = 0;
     while sent < bytes.len() {
-        match output.write(&bytes[sent..]) {
+        match write_once(output, writes, earlier, &bytes[sent..]) {
             Ok(0) => return Err(WriteError::Stuck { sent }),
             Ok(count) => sent += count,
-            Err(_) => {
-                if rose(earlier, output.failures()) {
-                    return Err(WriteError::Failed { sent });
-                }
+            Err(Unwritten::Failed) => return Err(WriteError::Failed { sent }),
+            Err(Unwritten::Uncounted) => {
                 if retries == MOST_RETRIES {
                     return Err(WriteError::Stuck { sent });
                 }

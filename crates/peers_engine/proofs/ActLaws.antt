@@ -54,7 +54,7 @@ given_in phases.Ended s e now event acts asks taken = absurd (false≢true asks)
 
 pub given_some : (s e : KeptSession) (now : ℕ) (answer : Option Event) (event : Event) (acts : List Action) → answer ≡ Some event → Steps s now event acts e → IsGiven s now answer ((event, acts) ∷ []) e
 given_some s e now answer event acts is taken =
-    subst (λ (x : Option Event). IsGiven s now x ((event, acts) ∷ []) e) (sym is) (given_in s.session.phase s e now event acts (step_asked s.manner s e now event acts taken) taken)
+    subst (λ (x : Option Event). IsGiven s now x ((event, acts) ∷ []) e) (sym is) (given_in s.session.phase s e now event acts (step_asked s.manner s e now event acts taken.0) taken)
 
 -- an answer is received
 pub given_steps : (s e : KeptSession) (now : ℕ) (answer : Option Event) (event : Event) (old new : List Action) → answer ≡ Some event

@@ -28,7 +28,7 @@ use Rattle.session_core.specs.Shares.{all_quiet, is_out, out_set, quiet_set}
 use Rattle.session_core.specs.Actions.{reopens}
 use Rattle.session_core.specs.Courses.{Course, ack_received, acknowledged}
 use Rattle.session_core.specs.Paces.{Pace, inferred, is_ahead}
-use Rattle.session_core.specs.Keeping.{KeptSession, Steps, StepsAs, TicksAs, is_staying, standing}
+use Rattle.session_core.specs.Keeping.{IsTicked, KeptSession, Steps, StepsAs, TicksAs, is_staying, standing}
 use Rattle.session_core.specs.Sessions.{SessionState, FinishesResync, GoesIn, GoesOpen, HasNothing, Settles, StartsPendingResync, state_of}
 use Rattle.session_core.specs.Standing.{StandingState, Stands, TicksIn, Writes, answer_of_refusal, finished_if, heartbeats, leaving, without_tables}
 use Rattle.peers_engine.specs.Calls.{IsCopied}
@@ -286,13 +286,13 @@ given_mute : (s : KeptSession) (now : ℕ) (answer : Option Event) (steps : List
 given_mute s now None steps e mild (none, same) = asks_none is_mute steps none
 given_mute s now (Some event) steps e mild given = elim (was_given s now event steps e given) [
   | inl none ↦ asks_none is_mute steps none
-  | inr one ↦ are_at is_mute (asked steps) one.0 one.2 (steps_mute s.manner s now event one.0 e mild one.1)
+  | inr one ↦ are_at is_mute (asked steps) one.0 one.2 (steps_mute s.manner s now event one.0 e mild one.1.0)
 ]
 
 given_light : (s : KeptSession) (now : ℕ) (answer : Option Event) (steps : List (Event × List Action)) (e : KeptSession) → is_late_answer answer ≡ true → IsGiven s now answer steps e → are_light (asked steps) ≡ true
 given_light s now (Some (events.Written known)) steps e late given = elim (was_given s now (events.Written known) steps e given) [
   | inl none ↦ asks_none is_light steps none
-  | inr one ↦ are_at is_light (asked steps) one.0 one.2 (steps_light s.manner s now known one.0 e one.1)
+  | inr one ↦ are_at is_light (asked steps) one.0 one.2 (steps_light s.manner s now known one.0 e one.1.0)
 ]
 given_light s now None steps e late given = light (asked steps) (given_mute s now None steps e late given)
 given_light s now (Some events.Opened) steps e late given = light (asked steps) (given_mute s now (Some events.Opened) steps e late given)
@@ -307,11 +307,11 @@ given_light s now (Some events.Turn) steps e late given = absurd (false≢true l
 given_light s now (Some (events.Copied table batch)) steps e late given = absurd (false≢true late)
 
 answer_fair : (s : KeptSession) (now : ℕ) (event : Event) (acts : List Action) (e : KeptSession) → is_answer event ≡ true → Steps s now event acts e → are_fair acts ≡ true
-answer_fair s now (events.Copied table batch) acts e is taken = steps_fair s.manner s now table batch acts e taken
-answer_fair s now (events.Written known) acts e is taken = each is_light is_fair light_fair acts (steps_light s.manner s now known acts e taken)
-answer_fair s now (events.Nothing table) acts e is taken = fair acts (steps_mute s.manner s now (events.Nothing table) acts e refl taken)
-answer_fair s now (events.Settled table settled) acts e is taken = fair acts (steps_mute s.manner s now (events.Settled table settled) acts e refl taken)
-answer_fair s now (events.Refused table) acts e is taken = fair acts (steps_mute s.manner s now (events.Refused table) acts e refl taken)
+answer_fair s now (events.Copied table batch) acts e is taken = steps_fair s.manner s now table batch acts e taken.0
+answer_fair s now (events.Written known) acts e is taken = each is_light is_fair light_fair acts (steps_light s.manner s now known acts e taken.0)
+answer_fair s now (events.Nothing table) acts e is taken = fair acts (steps_mute s.manner s now (events.Nothing table) acts e refl taken.0)
+answer_fair s now (events.Settled table settled) acts e is taken = fair acts (steps_mute s.manner s now (events.Settled table settled) acts e refl taken.0)
+answer_fair s now (events.Refused table) acts e is taken = fair acts (steps_mute s.manner s now (events.Refused table) acts e refl taken.0)
 answer_fair s now events.Opened acts e is taken = absurd (false≢true is)
 answer_fair s now events.Turn acts e is taken = absurd (false≢true is)
 answer_fair s now (events.Bytes bytes) acts e is taken = absurd (false≢true is)
@@ -462,5 +462,5 @@ ticked_mute (manners.Staying p) s e now left acts (q, (may, ticks), same) = tick
 
 -- nothing that it asks for has an answer
 pub tick_ends : (w e : Worker) (mid : KeptSession) (seat : SeatState) (left : List ℕ) (acts : List Action) (answers : List (Event × List Action)) (out : List ℕ)
-    → TicksAs w.session.manner w.session w.now left acts mid → Acts (stands w mid seat) acts answers out e → asked answers ≡ []
-tick_ends w e mid seat left acts answers out ticks acted = ap asked (mute_acts (stands w mid seat) e acts answers out (ticked_mute w.session.manner w.session mid w.now left acts ticks) acted)
+    → IsTicked w.session w.now left acts mid → Acts (stands w mid seat) acts answers out e → asked answers ≡ []
+tick_ends w e mid seat left acts answers out ticks acted = ap asked (mute_acts (stands w mid seat) e acts answers out (ticked_mute w.session.manner w.session mid w.now left acts ticks.0) acted)

@@ -11,3 +11,4 @@ mod RunLaws
 mod TakenLaws
 mod TickLaws
 mod TurnLaws
+mod WorkLaws

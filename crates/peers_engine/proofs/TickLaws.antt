@@ -1,8 +1,8 @@
 -- A tick, from the tables that it leaves to what it asks for.
 use Rattle.std.proofs.Common.{◌≡◌, ◌<◌, ◌+◌, ℕ, List, [], ◌∷◌, length, drop, get_or, Option, refl, sym, ap, subst, inl, inr}
-use Rattle.std.proofs.KnownBytes.{Appends-nil}
+use Rattle.peers_devices.proofs.WritingLaws.{writes_nothing}
 use Rattle.std.proofs.lemmas.List.{drop_more}
-use Rattle.std.specs.Io.KnownBytes.{Appends}
+use Rattle.peers_devices.specs.Writing.{AreWritten, Written}
 use Rattle.table_types.specs.declared.version.Version.{Version}
 use Rattle.table_shards.specs.Receipts.{SeatState}
 use Rattle.table_shards.specs.Rounds.{ShardsState}
@@ -42,26 +42,26 @@ not_reopened_later shards n version s mid t tables index default error within re
 
 -- ---- the tick
 
-pub ticked : (w e : Worker) (mid : KeptSession) (seat : SeatState) (left : List ℕ) (acts rest : List Action) (a b : Option (List ℕ))
+pub ticked : (w e : Worker) (mid : KeptSession) (seat : SeatState) (left : List ℕ) (acts rest : List Action) (a b : Written)
     → IsTicked w.session w.now left acts mid → AreReopened w.number (opened_with mid.session.version) w.seat left seat → AreDone (stands w mid seat) acts rest e a b
-    → (out : List ℕ) × TakesTick w out e × Appends a b out
+    → (out : List ℕ) × TakesTick w out e × AreWritten a b out
 ticked w e mid seat left acts rest a b ticks reopened (answers, out, acted, kept, appended) =
     (out, (left, acts, answers, mid, seat, ticks, reopened, acted, tick_ends w e mid seat left acts answers out ticks acted), appended)
 
-abbrev pub HasStoppedTick : ShardsState → Worker → SessionState → SeatState → Option (List ℕ) → Option (List ℕ) → EngineError → Type 0
-HasStoppedTick shards w e seat a b error = (out : List ℕ) × StopsTick shards w error out e seat × Appends a b out
+abbrev pub HasStoppedTick : ShardsState → Worker → SessionState → SeatState → Written → Written → EngineError → Type 0
+HasStoppedTick shards w e seat a b error = (out : List ℕ) × StopsTick shards w error out e seat × AreWritten a b out
 
-pub tick_refused : (shards : ShardsState) (w : Worker) (e : SessionState) (error : EngineError) (known : Option (List ℕ))
+pub tick_refused : (shards : ShardsState) (w : Worker) (e : SessionState) (error : EngineError) (known : Written)
     → IsRefused w.session.session events.Turn error → e ≡ ended w.session.session → HasStoppedTick shards w e w.seat known known error
-tick_refused shards w e error known refused over = ([], inl (refused, refl, ap ended over, refl), Appends-nil known)
+tick_refused shards w e error known refused over = ([], inl (refused, refl, ap ended over, refl), writes_nothing known)
 
 -- the session isn't reopened in a table that it leaves
-pub tick_left : (shards : ShardsState) (w : Worker) (mid : KeptSession) (seat : SeatState) (left : List ℕ) (acts : List Action) (error : EngineError) (known : Option (List ℕ))
+pub tick_left : (shards : ShardsState) (w : Worker) (mid : KeptSession) (seat : SeatState) (left : List ℕ) (acts : List Action) (error : EngineError) (known : Written)
     → IsTicked w.session w.now left acts mid → FailsToReopen shards w.number (opened_with mid.session.version) w.seat left error seat → HasStoppedTick shards w mid.session seat known known error
-tick_left shards w mid seat left acts error known ticks fails = ([], inr (left, acts, mid, ticks, inl (fails, refl, refl)), Appends-nil known)
+tick_left shards w mid seat left acts error known ticks fails = ([], inr (left, acts, mid, ticks, inl (fails, refl, refl)), writes_nothing known)
 
 -- an error among what it asks for
-pub tick_fails : (shards : ShardsState) (w : Worker) (mid : KeptSession) (e : SessionState) (next seat : SeatState) (left : List ℕ) (acts : List Action) (error : EngineError) (a b : Option (List ℕ))
+pub tick_fails : (shards : ShardsState) (w : Worker) (mid : KeptSession) (e : SessionState) (next seat : SeatState) (left : List ℕ) (acts : List Action) (error : EngineError) (a b : Written)
     → IsTicked w.session w.now left acts mid → AreReopened w.number (opened_with mid.session.version) w.seat left next → AreStopped shards (stands w mid next) acts error e seat a b → HasStoppedTick shards w e seat a b error
 tick_fails shards w mid e next seat left acts error a b ticks reopened (answers, out, until, appended) =
     (out, inr (left, acts, mid, ticks, inr (answers, next, reopened, until)), appended)
@@ -71,7 +71,7 @@ tick_ended shards w e seat error out (inl refused) = inl refused
 tick_ended shards w e seat error out (inr (left, acts, mid, ticks, inl fails)) = inr (left, acts, mid, ticks, inl fails)
 tick_ended shards w e seat error out (inr (left, acts, mid, ticks, inr until)) = inr (left, acts, mid, ticks, inr until)
 
-pub tick_stopped : (shards : ShardsState) (w : Worker) (e new : SessionState) (seat : SeatState) (error : EngineError) (a b : Option (List ℕ))
+pub tick_stopped : (shards : ShardsState) (w : Worker) (e new : SessionState) (seat : SeatState) (error : EngineError) (a b : Written)
     → HasStoppedTick shards w e seat a b error → new ≡ ended e → HasStoppedTick shards w new seat a b error
 tick_stopped shards w e new seat error a b (out, stops, appended) is =
     (out, subst (λ (x : SessionState). StopsTick shards w error out x seat) (sym is) (tick_ended shards w e seat error out stops), appended)

@@ -2,8 +2,10 @@
 use Rattle.std.proofs.Common.{◌≡◌, ℕ, Bool, List, [], ◌∷◌, ◌++◌, Option, Some, None, Result, Ok, Err, refl, sym, ap, ◌∙◌, subst, inl, inr}
 use Rattle.std.specs.Prelude.{◌≢◌, true, false}
 use Rattle.std.specs.List.{list_all}
-use Rattle.std.specs.Io.KnownBytes.{Appends, Consumes}
-use Rattle.std.proofs.KnownBytes.{Appends-trans, Consumes-nil}
+use Rattle.std.specs.Io.KnownBytes.{Consumes}
+use Rattle.peers_devices.specs.Writing.{AreWritten, Written}
+use Rattle.std.proofs.KnownBytes.{Consumes-nil}
+use Rattle.peers_devices.proofs.WritingLaws.{writes_then}
 use Rattle.table_shards.specs.Receipts.{SeatState}
 use Rattle.table_shards.specs.Rounds.{ShardsState}
 use Rattle.session_core.specs.declared.action.Action.{Action}
@@ -28,28 +30,28 @@ use Rattle.peers_engine.proofs.HaltLaws.{Went, act_stops, breaks_of, give_stops,
 -- ---- the actions so far, and one more
 
 -- the actions so far are performed, their answers are received, what those ask for is kept, and the bytes are written
-abbrev pub AreDone : Worker → List Action → List Action → Worker → Option (List ℕ) → Option (List ℕ) → Type 0
+abbrev pub AreDone : Worker → List Action → List Action → Worker → Written → Written → Type 0
 AreDone s acts given e old new =
-    (answers : List (Event × List Action)) × (out : List ℕ) × Acts s acts answers out e × (given ≡ asked answers) × Appends old new out
+    (answers : List (Event × List Action)) × (out : List ℕ) × Acts s acts answers out e × (given ≡ asked answers) × AreWritten old new out
 
 -- the same, up to an error
-abbrev pub AreStopped : ShardsState → Worker → List Action → EngineError → SessionState → SeatState → Option (List ℕ) → Option (List ℕ) → Type 0
+abbrev pub AreStopped : ShardsState → Worker → List Action → EngineError → SessionState → SeatState → Written → Written → Type 0
 AreStopped shards s acts error e seat old new =
-    (answers : List (Event × List Action)) × (out : List ℕ) × Stops shards s acts error answers out e seat × Appends old new out
+    (answers : List (Event × List Action)) × (out : List ℕ) × Stops shards s acts error answers out e seat × AreWritten old new out
 
 -- one action is performed
-abbrev pub OneDone : Bool → ℕ → ℕ → SessionState → SeatState → SeatState → Action → Option (List ℕ) → Option (List ℕ) → Option Event → Type 0
-OneDone stays n now x s t act old new answer = (out : List ℕ) × Done stays n now x s act out answer t × Appends old new out
+abbrev pub OneDone : Bool → ℕ → ℕ → SessionState → SeatState → SeatState → Action → Written → Written → Option Event → Type 0
+OneDone stays n now x s t act old new answer = (out : List ℕ) × Done stays n now x s act out answer t × AreWritten old new out
 
 -- one action fails
-abbrev pub OneFails : ShardsState → Bool → ℕ → ℕ → SessionState → SeatState → SeatState → Action → Option (List ℕ) → Option (List ℕ) → EngineError → Type 0
-OneFails shards stays n now x s t act old new error = (out : List ℕ) × Fails shards stays n now x s act error out t × Appends old new out
+abbrev pub OneFails : ShardsState → Bool → ℕ → ℕ → SessionState → SeatState → SeatState → Action → Written → Written → EngineError → Type 0
+OneFails shards stays n now x s t act old new error = (out : List ℕ) × Fails shards stays n now x s act error out t × AreWritten old new out
 
 -- the same of a worker
-abbrev pub OneDoneBy : Worker → SeatState → Action → Option (List ℕ) → Option (List ℕ) → Option Event → Type 0
+abbrev pub OneDoneBy : Worker → SeatState → Action → Written → Written → Option Event → Type 0
 OneDoneBy w t act old new answer = OneDone (is_staying w.session.manner) w.number w.now w.session.session w.seat t act old new answer
 
-abbrev pub OneFailsBy : ShardsState → Worker → SeatState → Action → Option (List ℕ) → Option (List ℕ) → EngineError → Type 0
+abbrev pub OneFailsBy : ShardsState → Worker → SeatState → Action → Written → Written → EngineError → Type 0
 OneFailsBy shards w t act old new error = OneFails shards (is_staying w.session.manner) w.number w.now w.session.session w.seat t act old new error
 
 -- a session that isn't over doesn't go on after an answer
@@ -57,55 +59,55 @@ abbrev pub IsNotGiven : KeptSession → ℕ → Option Event → KeptSession →
 IsNotGiven s now answer e error = (event : Event) × (answer ≡ Some event) × (state_of s.session.phase ≢ states.Ended) × DoesNotGoOn s now event error e
 
 -- the next action fails
-pub next_fails : (shards : ShardsState) (s mid : Worker) (seat : SeatState) (all before rest given : List Action) (act : Action) (error : EngineError) (a b d : Option (List ℕ))
+pub next_fails : (shards : ShardsState) (s mid : Worker) (seat : SeatState) (all before rest given : List Action) (act : Action) (error : EngineError) (a b d : Written)
     → all ≡ before ++ (act ∷ rest) → AreDone s before given mid a b → OneFailsBy shards mid seat act b d error → AreStopped shards s all error mid.session.session seat a d
 next_fails shards s mid seat all before rest given act error a b d is (answers, out, acted, kept, appended) (last, fails, more) = (
   answers,
   out ++ last,
   act_stops shards s mid seat all before rest act error answers out last is acted fails,
-  Appends-trans a b d out last appended more,
+  writes_then a b d out last appended more,
 )
 
 -- the session doesn't go on after the answer of the next action
-pub give_fails : (shards : ShardsState) (s mid : Worker) (e : KeptSession) (seat : SeatState) (all before rest given : List Action) (act : Action) (answer : Option Event) (error : EngineError) (a b d : Option (List ℕ))
+pub give_fails : (shards : ShardsState) (s mid : Worker) (e : KeptSession) (seat : SeatState) (all before rest given : List Action) (act : Action) (answer : Option Event) (error : EngineError) (a b d : Written)
     → all ≡ before ++ (act ∷ rest) → AreDone s before given mid a b → OneDoneBy mid seat act b d answer → IsNotGiven mid.session mid.now answer e error
     → AreStopped shards s all error e.session seat a d
 give_fails shards s mid e seat all before rest given act answer error a b d is (answers, out, acted, kept, appended) (bytes, done, more) (event, some, going, stuck) =
     let stops = give_stops shards s mid e seat all before rest act answer event error answers out bytes is acted done some going stuck in
-    (stops.0, out ++ bytes, stops.1, Appends-trans a b d out bytes appended more)
+    (stops.0, out ++ bytes, stops.1, writes_then a b d out bytes appended more)
 
 -- ---- one event
 
-abbrev pub HasReacted : Worker → Event → Worker → Option (List ℕ) → Option (List ℕ) → Type 0
-HasReacted s event e old new = (out : List ℕ) × Reacts s event out e × Appends old new out
+abbrev pub HasReacted : Worker → Event → Worker → Written → Written → Type 0
+HasReacted s event e old new = (out : List ℕ) × Reacts s event out e × AreWritten old new out
 
-abbrev pub HasHalted : ShardsState → Worker → Event → SessionState → SeatState → Option (List ℕ) → Option (List ℕ) → EngineError → Type 0
-HasHalted shards s event e seat old new error = (out : List ℕ) × Halts shards s event error out e seat × Appends old new out
+abbrev pub HasHalted : ShardsState → Worker → Event → SessionState → SeatState → Written → Written → EngineError → Type 0
+HasHalted shards s event e seat old new error = (out : List ℕ) × Halts shards s event error out e seat × AreWritten old new out
 
 -- so far, with the bytes that were written
-abbrev pub HasWent : Worker → List Action → List Action → List Action → Worker → Option (List ℕ) → Option (List ℕ) → Type 0
-HasWent s acts done given e old new = (out : List ℕ) × Went s acts done given e out × Appends old new out
+abbrev pub HasWent : Worker → List Action → List Action → List Action → Worker → Written → Written → Type 0
+HasWent s acts done given e old new = (out : List ℕ) × Went s acts done given e out × AreWritten old new out
 
-pub first_went : (s e : Worker) (acts given : List Action) (a b : Option (List ℕ)) → AreDone s acts given e a b → HasWent s acts [] given e a b
+pub first_went : (s e : Worker) (acts given : List Action) (a b : Written) → AreDone s acts given e a b → HasWent s acts [] given e a b
 first_went s e acts given a b (answers, out, acted, kept, appended) = (out, went_first s e acts given answers out acted kept, appended)
 
-pub next_went : (s mid e : Worker) (acts done given more : List Action) (a b d : Option (List ℕ)) → HasWent s acts done given mid a b → AreDone mid given more e b d → HasWent s acts (done ++ given) more e a d
+pub next_went : (s mid e : Worker) (acts done given more : List Action) (a b d : Written) → HasWent s acts done given mid a b → AreDone mid given more e b d → HasWent s acts (done ++ given) more e a d
 next_went s mid e acts done given more a b d (out, went, appended) (answers, rest, acted, kept, then) =
-    (out ++ rest, went_on s mid e acts done given more answers out rest went acted kept, Appends-trans a b d out rest appended then)
+    (out ++ rest, went_on s mid e acts done given more answers out rest went acted kept, writes_then a b d out rest appended then)
 
 -- an error among what the event asked for
-pub first_fails : (shards : ShardsState) (s : Worker) (mid : KeptSession) (e : SessionState) (seat : SeatState) (event : Event) (acts : List Action) (error : EngineError) (a b : Option (List ℕ))
+pub first_fails : (shards : ShardsState) (s : Worker) (mid : KeptSession) (e : SessionState) (seat : SeatState) (event : Event) (acts : List Action) (error : EngineError) (a b : Written)
     → Steps s.session s.now event acts mid → AreStopped shards (stands s mid s.seat) acts error e seat a b → HasHalted shards s event e seat a b error
 first_fails shards s mid e seat event acts error a b taken (answers, out, stops, appended) = (out, react_stops_first shards s mid e seat event acts error answers out taken stops, appended)
 
 -- an error among what the answers asked for
-pub later_fails : (shards : ShardsState) (s next : Worker) (mid : KeptSession) (e : SessionState) (seat : SeatState) (event : Event) (acts done given : List Action) (error : EngineError) (a b d : Option (List ℕ))
+pub later_fails : (shards : ShardsState) (s next : Worker) (mid : KeptSession) (e : SessionState) (seat : SeatState) (event : Event) (acts done given : List Action) (error : EngineError) (a b d : Written)
     → Steps s.session s.now event acts mid → HasWent (stands s mid s.seat) acts done given next a b → AreStopped shards next given error e seat b d → HasHalted shards s event e seat a d error
 later_fails shards s next mid e seat event acts done given error a b d taken (out, went, appended) (more, rest, stops, then) =
-    (out ++ rest, react_stops shards s next mid e seat event acts done given error more out rest taken went stops, Appends-trans a b d out rest appended then)
+    (out ++ rest, react_stops shards s next mid e seat event acts done given error more out rest taken went stops, writes_then a b d out rest appended then)
 
 -- the four lists of actions are performed, and nothing more is asked for
-pub four_done : (s one two three e : Worker) (mid : KeptSession) (event : Event) (acts first second third last : List Action) (a b d f h : Option (List ℕ))
+pub four_done : (s one two three e : Worker) (mid : KeptSession) (event : Event) (acts first second third last : List Action) (a b d f h : Written)
     → Steps s.session s.now event acts mid → AreDone (stands s mid s.seat) acts first one a b → AreDone one first second two b d → AreDone two second third three d f → AreDone three third last e f h
     → HasReacted s event e a h
 four_done s one two three e mid event acts first second third last a b d f h taken done_one done_two done_three done_four =
@@ -114,7 +116,7 @@ four_done s one two three e mid event acts first second third last a b d f h tak
     (next_went begun two three acts ([] ++ first) second third a d f (next_went begun one two acts [] first second a b d (first_went begun one acts first a b done_one) done_two) done_three) done_four in
     (went.0, react_done s e mid event acts ((([] ++ first) ++ second) ++ third) last went.0 taken went.1 (four_end begun one two three e acts first second third last a b d f h done_one done_two done_three done_four), went.2)
   where
-    four_end : (begun one two three e : Worker) (acts first second third last : List Action) (a b d f h : Option (List ℕ))
+    four_end : (begun one two three e : Worker) (acts first second third last : List Action) (a b d f h : Written)
         → AreDone begun acts first one a b → AreDone one first second two b d → AreDone two second third three d f → AreDone three third last e f h → last ≡ []
     four_end begun one two three e acts first second third last a b d f h (p, w, acted, is, also) (q, x, acted_two, is_two, also_two) (r, y, acted_three, is_three, also_three) (t, z, acted_four, is_four, also_four) =
         is_four ∙ ends_after_four begun one two three e acts p q r t w x y z acted
@@ -131,16 +133,16 @@ pub idle_of : (result : Result Bool EngineError) → result ≡ Ok true → is_o
 idle_of result is = ap is_ok_true is
 
 -- only pushes are performed, and they lead to nothing
-abbrev pub HasIdled : Worker → Event → Worker → Option (List ℕ) → Option (List ℕ) → Type 0
-HasIdled s event e old new = Idles s event e × Appends old new []
+abbrev pub HasIdled : Worker → Event → Worker → Written → Written → Type 0
+HasIdled s event e old new = Idles s event e × AreWritten old new []
 
 -- no list of actions leads to anything
-pub nothing_done : (s e : Worker) (given more : List Action) (a b : Option (List ℕ)) → given ≡ [] → AreDone s given more e a b → (more ≡ []) × (e ≡ s) × Appends a b []
+pub nothing_done : (s e : Worker) (given more : List Action) (a b : Written) → given ≡ [] → AreDone s given more e a b → (more ≡ []) × (e ≡ s) × AreWritten a b []
 nothing_done s e given more a b none (answers, out, acted, is, appended) =
     let nothing = none_done s e given answers out none acted in
-    (is ∙ nothing.0, nothing.2, subst (λ (x : List ℕ). Appends a b x) nothing.1 appended)
+    (is ∙ nothing.0, nothing.2, subst (λ (x : List ℕ). AreWritten a b x) nothing.1 appended)
 
-pub four_idle : (s one two three e : Worker) (mid : KeptSession) (event : Event) (acts first second third last : List Action) (a b d f h : Option (List ℕ))
+pub four_idle : (s one two three e : Worker) (mid : KeptSession) (event : Event) (acts first second third last : List Action) (a b d f h : Written)
     → Steps s.session s.now event acts mid → AreDone (stands s mid s.seat) acts first one a b → AreDone one first second two b d → AreDone two second third three d f → AreDone three third last e f h
     → list_all is_push acts ≡ true → first ≡ [] → HasIdled s event e a h
 four_idle s one two three e mid event acts first second third last a b d f h taken (answers, out, acted, kept, appended) done_two done_three done_four pushes none =
@@ -150,58 +152,67 @@ four_idle s one two three e mid event acts first second third last a b d f h tak
     let last_of = nothing_done three e third last f h after.0 done_four in
     let same : e ≡ one = last_of.1 ∙ (after.1 ∙ then.1) in (
       subst (λ (x : Worker). Idles s event x) (sym same) idle.0,
-      Appends-trans a b h [] [] (subst (λ (x : List ℕ). Appends a b x) idle.1 appended) (Appends-trans b d h [] [] then.2 (Appends-trans d f h [] [] after.2 last_of.2)),
+      writes_then a b h [] [] (subst (λ (x : List ℕ). AreWritten a b x) idle.1 appended) (writes_then b d h [] [] then.2 (writes_then d f h [] [] after.2 last_of.2)),
     )
+
+-- the first event leaves nothing to do, and then nothing is read
+pub idle_turn : (s mid e : Worker) (event first : Event) (from to : Option (List ℕ)) (a b d : Written) → event ≡ first → HasIdled s event mid a b → e ≡ mid → d ≡ b → Consumes from to []
+    → Idles s first e × Consumes from to [] × AreWritten a d []
+idle_turn s mid e event first from to a b d is (idles, silent) same still consumed = (
+  subst (λ (x : Worker). Idles s first x) (sym same) (subst (λ (x : Event). Idles s x mid) is idles),
+  consumed,
+  subst (λ (x : Written). AreWritten a x []) (sym still) silent,
+)
 
 -- ---- a turn
 
 -- what a turn did, and what a turn that failed did up to its error
-abbrev pub HasTurned : Type 0 → Type 0 → Worker → Worker → Option (List ℕ) → Option (List ℕ) → Option (List ℕ) → Option (List ℕ) → Type 0
+abbrev pub HasTurned : Type 0 → Type 0 → Worker → Worker → Option (List ℕ) → Option (List ℕ) → Written → Written → Type 0
 HasTurned at_end untouched s e from to a b =
-    (received : Option Event) × (read out : List ℕ) × IsRead at_end received read × TakesTurn untouched s received out e × Consumes from to read × Appends a b out
+    (received : Option Event) × (read out : List ℕ) × IsRead at_end received read × TakesTurn untouched s received out e × Consumes from to read × AreWritten a b out
 
-abbrev pub HasStopped : ShardsState → Type 0 → Type 0 → Worker → SessionState → SeatState → Option (List ℕ) → Option (List ℕ) → Option (List ℕ) → Option (List ℕ) → EngineError → Type 0
+abbrev pub HasStopped : ShardsState → Type 0 → Type 0 → Worker → SessionState → SeatState → Option (List ℕ) → Option (List ℕ) → Written → Written → EngineError → Type 0
 HasStopped shards at_end untouched s e seat from to a b error =
-    (received : Option Event) × (read out : List ℕ) × IsRead at_end received read × StopsTurn shards untouched s received error out e seat × Consumes from to read × Appends a b out
+    (received : Option Event) × (read out : List ℕ) × IsRead at_end received read × StopsTurn shards untouched s received error out e seat × Consumes from to read × AreWritten a b out
 
 -- the event that was read is received, up to an error
-pub read_fails : (shards : ShardsState) {at_end : Type 0} (s : Worker) (e : SessionState) (seat : SeatState) (found : Option Event) (event : Event) (error : EngineError) (from to a b : Option (List ℕ))
+pub read_fails : (shards : ShardsState) {at_end : Type 0} (s : Worker) (e : SessionState) (seat : SeatState) (found : Option Event) (event : Event) (error : EngineError) (from to : Option (List ℕ)) (a b : Written)
     → found ≡ Some event → ((read : List ℕ) × IsRead at_end found read × Consumes from to read) → HasHalted shards s event e seat a b error
-    → (received : Option Event) × (read out : List ℕ) × IsRead at_end received read × HaltsAt shards s received error out e seat × Consumes from to read × Appends a b out
+    → (received : Option Event) × (read out : List ℕ) × IsRead at_end received read × HaltsAt shards s received error out e seat × Consumes from to read × AreWritten a b out
 read_fails shards {at_end} s e seat found event error from to a b is (read, reads, consumed) (out, halts, appended) =
     (Some event, read, out, subst (λ (x : Option Event). IsRead at_end x read) is reads, halts, consumed, appended)
 
 -- the first event leaves nothing to do, and then the turn reads
-pub then_done : {at_end untouched : Type 0} (s mid e : Worker) (event : Event) (from to a b d : Option (List ℕ)) → event ≡ first_event (state_of s.session.session.phase) → HasIdled s event mid a b
-    → ((received : Option Event) × (read out : List ℕ) × IsRead at_end received read × Receives mid received out e × Consumes from to read × Appends b d out)
+pub then_done : {at_end untouched : Type 0} (s mid e : Worker) (event : Event) (from to : Option (List ℕ)) (a b d : Written) → event ≡ first_event (state_of s.session.session.phase) → HasIdled s event mid a b
+    → ((received : Option Event) × (read out : List ℕ) × IsRead at_end received read × Receives mid received out e × Consumes from to read × AreWritten b d out)
     → HasTurned at_end untouched s e from to a d
 then_done s mid e event from to a b d is (idles, silent) (received, read, out, reads, receives, consumed, more) =
-    (received, read, out, reads, inr (mid, subst (λ (x : Event). Idles s x mid) is idles, receives), consumed, Appends-trans a b d [] out silent more)
+    (received, read, out, reads, inr (mid, subst (λ (x : Event). Idles s x mid) is idles, receives), consumed, writes_then a b d [] out silent more)
 
-pub then_fails : (shards : ShardsState) {at_end untouched : Type 0} (s mid : Worker) (e : SessionState) (seat : SeatState) (event : Event) (error : EngineError) (from to a b d : Option (List ℕ)) → event ≡ first_event (state_of s.session.session.phase) → HasIdled s event mid a b
-    → ((received : Option Event) × (read out : List ℕ) × IsRead at_end received read × HaltsAt shards mid received error out e seat × Consumes from to read × Appends b d out)
+pub then_fails : (shards : ShardsState) {at_end untouched : Type 0} (s mid : Worker) (e : SessionState) (seat : SeatState) (event : Event) (error : EngineError) (from to : Option (List ℕ)) (a b d : Written) → event ≡ first_event (state_of s.session.session.phase) → HasIdled s event mid a b
+    → ((received : Option Event) × (read out : List ℕ) × IsRead at_end received read × HaltsAt shards mid received error out e seat × Consumes from to read × AreWritten b d out)
     → HasStopped shards at_end untouched s e seat from to a d error
 then_fails shards s mid e seat event error from to a b d is (idles, silent) (received, read, out, reads, halts, consumed, more) =
-    (received, read, out, reads, inr (mid, subst (λ (x : Event). Idles s x mid) is idles, halts), consumed, Appends-trans a b d [] out silent more)
+    (received, read, out, reads, inr (mid, subst (λ (x : Event). Idles s x mid) is idles, halts), consumed, writes_then a b d [] out silent more)
 
 -- the first event alone, without using the reader
-pub alone_done : {at_end untouched : Type 0} (s e : Worker) (event : Event) (known a b : Option (List ℕ)) → event ≡ first_event (state_of s.session.session.phase) → HasReacted s event e a b → untouched → HasTurned at_end untouched s e known known a b
+pub alone_done : {at_end untouched : Type 0} (s e : Worker) (event : Event) (known : Option (List ℕ)) (a b : Written) → event ≡ first_event (state_of s.session.session.phase) → HasReacted s event e a b → untouched → HasTurned at_end untouched s e known known a b
 alone_done s e event known a b is (out, reacts, appended) still =
     (None, [], out, refl, inl (still, refl, subst (λ (x : Event). Reacts s x out e) is reacts), Consumes-nil known, appended)
 
-pub alone_fails : (shards : ShardsState) {at_end untouched : Type 0} (s : Worker) (e : SessionState) (seat : SeatState) (event : Event) (error : EngineError) (known a b : Option (List ℕ)) → event ≡ first_event (state_of s.session.session.phase) → HasHalted shards s event e seat a b error
+pub alone_fails : (shards : ShardsState) {at_end untouched : Type 0} (s : Worker) (e : SessionState) (seat : SeatState) (event : Event) (error : EngineError) (known : Option (List ℕ)) (a b : Written) → event ≡ first_event (state_of s.session.session.phase) → HasHalted shards s event e seat a b error
     → untouched → HasStopped shards at_end untouched s e seat known known a b error
 alone_fails shards s e seat event error known a b is (out, halts, appended) still =
     (None, [], out, refl, inl (still, refl, subst (λ (x : Event). Halts shards s x error out e seat) is halts), Consumes-nil known, appended)
 
 -- the session after a turn
-pub turned : {at_end untouched : Type 0} (s e : Worker) (from to a b : Option (List ℕ)) → HasTurned at_end untouched s e from to a b → Turns s.now s.session e.session
+pub turned : {at_end untouched : Type 0} (s e : Worker) (from to : Option (List ℕ)) (a b : Written) → HasTurned at_end untouched s e from to a b → Turns s.now s.session e.session
 turned s e from to a b (received, read, out, reads, all, consumed, appended) = turns_of s e received out all
 
-pub broken : (shards : ShardsState) {at_end untouched : Type 0} (s : Worker) (e new : SessionState) (seat : SeatState) (error : EngineError) (from to a b : Option (List ℕ)) → HasStopped shards at_end untouched s e seat from to a b error → new ≡ ended e → Breaks s.now s.session new
+pub broken : (shards : ShardsState) {at_end untouched : Type 0} (s : Worker) (e new : SessionState) (seat : SeatState) (error : EngineError) (from to : Option (List ℕ)) (a b : Written) → HasStopped shards at_end untouched s e seat from to a b error → new ≡ ended e → Breaks s.now s.session new
 broken shards s e new seat error from to a b (received, read, out, reads, stops, consumed, appended) is = breaks_of shards s e new seat received error out stops is
 
-pub stopped : (shards : ShardsState) {at_end untouched : Type 0} (s : Worker) (e new : SessionState) (seat : SeatState) (error : EngineError) (from to a b : Option (List ℕ)) → HasStopped shards at_end untouched s e seat from to a b error → new ≡ ended e → HasStopped shards at_end untouched s new seat from to a b error
+pub stopped : (shards : ShardsState) {at_end untouched : Type 0} (s : Worker) (e new : SessionState) (seat : SeatState) (error : EngineError) (from to : Option (List ℕ)) (a b : Written) → HasStopped shards at_end untouched s e seat from to a b error → new ≡ ended e → HasStopped shards at_end untouched s new seat from to a b error
 stopped shards s e new seat error from to a b (received, read, out, reads, stops, consumed, appended) is =
     (received, read, out, reads, halted shards s e new seat received error out stops is, consumed, appended)
 

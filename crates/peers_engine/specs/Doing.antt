@@ -1,6 +1,6 @@
 -- How a session's actions are performed, and what is written for them.
 use Rattle.std.specs.Prelude.{◌≡◌, ◌⊎◌, ◌<◌, ℕ, Bool, List, [], ◌∷◌, length, take, Option, Some, None, Ok, Err}
-use Rattle.std.specs.Io.KnownBytes.{Appends}
+use Rattle.peers_devices.specs.Writing.{AreWritten, Written}
 use Rattle.table_types.specs.declared.update.Update.{Update}
 use Rattle.table_types.specs.declared.copies.Settled.{Settled}
 use Rattle.table_types.specs.Batches.{IsBatchFor}
@@ -66,8 +66,8 @@ IsAtTable actions.Close = ⊥
 IsAtTable act = Unit {0}
 
 -- a write of these bytes failed: exactly the first `sent` of them were written, and not all
-abbrev pub Falls : List ℕ → EngineError → Option (List ℕ) → Option (List ℕ) → Type 0
-Falls bytes (errors.Write sent) old new = (sent < length bytes) × Appends old new (take sent bytes)
+abbrev pub Falls : List ℕ → EngineError → Written → Written → Type 0
+Falls bytes (errors.Write sent) old new = (sent < length bytes) × AreWritten old new (take sent bytes)
 Falls bytes error old new = ⊥
 
 -- How an action that a table refuses leaves the seat: as it was; or with the receipt of the close, if the session was

@@ -1,11 +1,12 @@
 //! Giving a session the answers to what it asked for.
 
-ghost use Rattle.std.specs.Prelude.{◌≡◌, ◌≢◌, ◌++◌, IfErr, List, OnOk, Some};
+ghost use Rattle.std.specs.Prelude.{◌≡◌, ◌≢◌, ◌++◌, ℕ, IfErr, List, OnOk, Some};
 ghost use Rattle.session_core.specs.declared.action.Action.{Action};
 ghost use Rattle.session_core.specs.declared.event.Event.{Event};
 ghost use Rattle.session_core.specs.declared.state.State.TheVariants as states;
 ghost use Rattle.session_core.specs.Keeping.{is_staying};
 ghost use Rattle.session_core.specs.Sessions.{state_of};
+ghost use Rattle.peers_engine.specs.declared.errors.EngineError.TheVariants as errors;
 ghost use Rattle.peers_engine.specs.Acting.{DoesNotGoOn, IsGiven, asked};
 
 use crate::errors::EngineError;
@@ -24,6 +25,7 @@ pub(crate) fn give_answer(
     ensures given { OnOk result ((steps : List (Event × List Action)) × IsGiven session.old now (Some answer) steps session.new
         × (given.new.items ≡ given.old.items ++ asked steps)) }
     ensures stuck { IfErr result (λ e. (state_of session.old.session.phase ≢ states.Ended) × DoesNotGoOn session.old now answer e session.new) }
+    ensures unwritten { IfErr result (λ e. (sent : ℕ) → e ≢ errors.Write sent) }
 {
     if session.state() == State::Ended {
         return Ok(());

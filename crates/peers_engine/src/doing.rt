@@ -1,7 +1,7 @@
 //! Performing a session's actions.
 
-ghost use Rattle.std.specs.Prelude.{◌≡◌, ◌≢◌, ◌∷◌, ◌++◌, [], IfErr, IfOk, OnErr, OnOk, Bool, List, ℕ};
-ghost use Rattle.std.specs.Io.KnownBytes.{Appends};
+ghost use Rattle.std.specs.Prelude.{◌≡◌, ◌≢◌, ◌∷◌, ◌++◌, [], Err, IfErr, IfOk, OnErr, OnOk, Bool, List, ℕ};
+ghost use Rattle.peers_devices.specs.Writing.{AreWritten, Balks, written};
 ghost use Rattle.table_types.specs.Batches.{IsBatchFor};
 ghost use Rattle.known_state.specs.Known.{KnownState};
 ghost use Rattle.session_core.specs.declared.action.Action.{Action};
@@ -22,9 +22,9 @@ use crate::context::Context;
 use crate::errors::EngineError;
 use crate::gate::{Gate, Stage};
 use crate::tables::{acknowledge, copy, learn, opened_with, reopen, settle};
-use crate::writing::{PiecesError, write_lesson, write_pieces};
+use crate::writing::{PiecesError, write_counted, write_pieces};
 use known_state::Known;
-use peers_devices::Faults;
+use peers_devices::{Faults, Writes};
 use peers_msg::ErrorKind;
 use session_core::{Action, Event, Session};
 use std::io::Write;
@@ -34,24 +34,34 @@ use table_types::{Batch, CopyKind};
 use teach_writer::Pieces;
 
 /// Writes all of the bytes.
-pub(crate) fn send<W: Write + Faults>(output: &mut W, bytes: &[u8]) -> Result<(), EngineError>
-    ensures ok { OnOk result (Appends (W.contents output.old) (W.contents output.new) bytes.now) }
-    ensures failed { IfErr result (λ e. Falls bytes.now e (W.contents output.old) (W.contents output.new)) }
+pub(crate) fn send<W: Write + Faults>(
+    output: &mut W,
+    writes: &mut Writes,
+    bytes: &[u8],
+) -> Result<(), EngineError>
+    ensures ok { OnOk result (AreWritten (written (W.contents output.old) writes.old) (written (W.contents output.new) writes.new) bytes.now) }
+    ensures failed { IfErr result (λ e. Falls bytes.now e (written (W.contents output.old) writes.old) (written (W.contents output.new) writes.new)) }
+    ensures balks { OnErr result (Balks (written (W.contents output.old) writes.old) (written (W.contents output.new) writes.new)) }
 {
-    match write_lesson(output, bytes) {
+    match write_counted(output, writes, bytes) {
         Ok(()) => Ok(()),
         Err(fault) => Err(EngineError::Write { sent: fault.sent }),
     }
 }
 
 /// Writes an error message.
-pub(crate) fn part<W: Write + Faults>(output: &mut W, kind: ErrorKind) -> Result<(), EngineError>
-    ensures ok { OnOk result (Appends (W.contents output.old) (W.contents output.new) (error_text kind)) }
-    ensures failed { IfErr result (λ e. Falls (error_text kind) e (W.contents output.old) (W.contents output.new)) }
+pub(crate) fn part<W: Write + Faults>(
+    output: &mut W,
+    writes: &mut Writes,
+    kind: ErrorKind,
+) -> Result<(), EngineError>
+    ensures ok { OnOk result (AreWritten (written (W.contents output.old) writes.old) (written (W.contents output.new) writes.new) (error_text kind)) }
+    ensures failed { IfErr result (λ e. Falls (error_text kind) e (written (W.contents output.old) writes.old) (written (W.contents output.new) writes.new)) }
+    ensures balks { OnErr result (Balks (written (W.contents output.old) writes.old) (written (W.contents output.new) writes.new)) }
 {
     match kind {
-        ErrorKind::Protocol => send(output, &[1, 0]),
-        ErrorKind::SizeLimit => send(output, &[1, 1]),
+        ErrorKind::Protocol => send(output, writes, &[1, 0]),
+        ErrorKind::SizeLimit => send(output, writes, &[1, 1]),
     }
 }
 
@@ -101,21 +111,23 @@ pub(crate) fn teach_batch<H: Wait, G: Gate, W: Write + Faults>(
     context: &Context<H, G>,
     known: &Known,
     output: &mut W,
+    writes: &mut Writes,
     seat: &mut Seat,
     batch: &Batch,
 ) -> Result<Event, EngineError>
     ensures seat { seat.new.number ≡ seat.old.number }
     ensures taught { IfOk result (λ event. (out : List ℕ) × (after : KnownState) × IsShortestLesson known.now batch.now out after
-        × (event ≡ events.Written after) × IsSettled context.now.number seat.old batch.now seat.new × Appends (W.contents output.old) (W.contents output.new) out) }
+        × (event ≡ events.Written after) × IsSettled context.now.number seat.old batch.now seat.new × AreWritten (written (W.contents output.old) writes.old) (written (W.contents output.new) writes.new) out) }
     ensures failed { (stays : Bool) (session : SessionState) → session.known ≡ known.now
         → IfErr result (λ e. (out : List ℕ) × Fails context.now.shards.now stays context.now.number context.now.moment session seat.old (actions.Teach batch.now) e out seat.new
-        × Appends (W.contents output.old) (W.contents output.new) out) }
+        × AreWritten (written (W.contents output.old) writes.old) (written (W.contents output.new) writes.new) out) }
     ensures unread { IfErr result (λ e. e ≢ errors.Read) }
+    ensures balks { (sent : ℕ) → result ≡ Err (errors.Write sent) → Balks (written (W.contents output.old) writes.old) (written (W.contents output.new) writes.new) }
 {
     let pieces = plan(context, known, batch)?;
     context.gate.at(context.rt, Stage::Planned);
     settle(context, seat, batch)?;
-    let after = match write_pieces(context.alloc, output, pieces) {
+    let after = match write_pieces(context.alloc, output, writes, pieces) {
         Ok((_prices, after)) => after,
         Err(PiecesError::Write { sent }) => return Err(EngineError::Write { sent }),
         Err(PiecesError::Memory { sent: _ }) => return Err(EngineError::Memory),
@@ -135,6 +147,7 @@ pub(crate) fn act<H: Wait, G: Gate, W: Write + Faults>(
     context: &Context<H, G>,
     session: &mut Session,
     output: &mut W,
+    writes: &mut Writes,
     seat: &mut Seat,
     action: Action,
     given: &mut Vec<Action>,
@@ -144,18 +157,19 @@ pub(crate) fn act<H: Wait, G: Gate, W: Write + Faults>(
     ensures done { OnOk result ((answers : List (Event × List Action)) × (out : List ℕ)
         × Acts (worker session.old seat.old context.now.number context.now.moment) (action ∷ []) answers out (worker session.new seat.new context.now.number context.now.moment)
         × (given.new.items ≡ given.old.items ++ asked answers)
-        × Appends (W.contents output.old) (W.contents output.new) out) }
+        × AreWritten (written (W.contents output.old) writes.old) (written (W.contents output.new) writes.new) out) }
     ensures failed { IfErr result (λ e. (answers : List (Event × List Action)) × (out : List ℕ)
         × Stops context.now.shards.now (worker session.old seat.old context.now.number context.now.moment) (action ∷ []) e answers out session.new.session seat.new
-        × Appends (W.contents output.old) (W.contents output.new) out) }
+        × AreWritten (written (W.contents output.old) writes.old) (written (W.contents output.new) writes.new) out) }
     ensures unread { IfErr result (λ e. e ≢ errors.Read) }
+    ensures balks { (sent : ℕ) → result ≡ Err (errors.Write sent) → Balks (written (W.contents output.old) writes.old) (written (W.contents output.new) writes.new) }
 {
     let stays = session.stays();
     match action {
-        Action::Send(bytes) => send(output, bytes.as_slice()),
+        Action::Send(bytes) => send(output, writes, bytes.as_slice()),
         Action::Learn(update) => learn(context, seat, update, stays),
         Action::Reopen(table) => reopen(context, seat, table, opened_with(session.version())),
-        Action::Part(kind) => part(output, kind),
+        Action::Part(kind) => part(output, writes, kind),
         Action::Close => Ok(()),
         Action::Ack { table, number } => {
             let answer = acknowledge(context, seat, table, number)?;
@@ -166,7 +180,7 @@ pub(crate) fn act<H: Wait, G: Gate, W: Write + Faults>(
             give_answer(session, context.moment, answer, given)
         }
         Action::Teach(batch) => {
-            let answer = teach_batch(context, session.known(), output, seat, &batch)?;
+            let answer = teach_batch(context, session.known(), output, writes, seat, &batch)?;
             give_answer(session, context.moment, answer, given)
         }
     }

@@ -23,7 +23,7 @@ pub use doing::{copy_batch, plan};
 pub use errors::EngineError;
 pub use fused::Fused;
 pub use gate::{AlwaysOpen, Gate, Stage};
-pub use laws::no_late_call_comes_too_early;
+pub use laws::{no_late_call_comes_too_early, what_a_worker_does_happens};
 pub use outcome::Outcome;
 pub use peers_devices::{Counting, Faults};
 pub use tables::{acknowledge, settle};

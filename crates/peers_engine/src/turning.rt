@@ -3,6 +3,7 @@
 ghost use Rattle.std.specs.Prelude.{◌≡◌, ◌≢◌, ◌↔◌, [], true, Ok, Err, IfErr, IfOk, List, OnErr, OnOk, Option, ℕ};
 ghost use Rattle.std.specs.List.{list_all};
 ghost use Rattle.std.specs.Io.KnownBytes.{Appends, Consumes, IsAtEnd};
+ghost use Rattle.peers_devices.specs.Writing.{AreWritten, Balks, written};
 ghost use Rattle.peers_devices.specs.Failures.{Rose};
 ghost use Rattle.session_core.specs.declared.action.Action.{Action};
 ghost use Rattle.session_core.specs.declared.error.SessionError.{SessionError};
@@ -28,7 +29,7 @@ use crate::outcome::Outcome;
 use crate::reading::read_event;
 use crate::tables::{opened_with, reopen};
 use crate::turned::Turned;
-use peers_devices::Faults;
+use peers_devices::{Faults, Writes};
 use session_core::{Action, Event, Session, State, Ticked};
 use std::alloc::Global;
 use std::io::{Read, Write};
@@ -51,6 +52,7 @@ fn do_all<H: Wait, G: Gate, W: Write + Faults>(
     context: &Context<H, G>,
     session: &mut Session,
     output: &mut W,
+    writes: &mut Writes,
     seat: &mut Seat,
     actions: Vec<Action>,
 ) -> Result<Vec<Action>, EngineError>
@@ -58,15 +60,16 @@ fn do_all<H: Wait, G: Gate, W: Write + Faults>(
     ensures manner { is_staying session.new.manner ≡ is_staying session.old.manner }
     ensures done { IfOk result (λ given. (answers : List (Event × List Action)) × (out : List ℕ)
         × Acts (worker session.old seat.old context.now.number context.now.moment) actions.items answers out (worker session.new seat.new context.now.number context.now.moment) × (given.items ≡ asked answers)
-        × Appends (W.contents output.old) (W.contents output.new) out) }
+        × AreWritten (written (W.contents output.old) writes.old) (written (W.contents output.new) writes.new) out) }
     ensures failed { IfErr result (λ e. (answers : List (Event × List Action)) × (out : List ℕ)
         × Stops context.now.shards.now (worker session.old seat.old context.now.number context.now.moment) actions.items e answers out session.new.session seat.new
-        × Appends (W.contents output.old) (W.contents output.new) out) }
+        × AreWritten (written (W.contents output.old) writes.old) (written (W.contents output.new) writes.new) out) }
     ensures unread { IfErr result (λ e. e ≢ errors.Read) }
+    ensures balks { (sent : ℕ) → result ≡ Err (errors.Write sent) → Balks (written (W.contents output.old) writes.old) (written (W.contents output.new) writes.new) }
 {
     let mut given = Vec::new(context.alloc);
     for action in actions {
-        act(context, session, output, seat, action, &mut given)?;
+        act(context, session, output, writes, seat, action, &mut given)?;
     }
     Ok(given)
 }
@@ -93,27 +96,29 @@ fn react<H: Wait, G: Gate, W: Write + Faults>(
     context: &Context<H, G>,
     session: &mut Session,
     output: &mut W,
+    writes: &mut Writes,
     seat: &mut Seat,
     event: Event,
 ) -> Result<bool, EngineError>
     ensures seat { seat.new.number ≡ seat.old.number }
     ensures manner { is_staying session.new.manner ≡ is_staying session.old.manner }
     ensures done { OnOk result ((out : List ℕ) × Reacts (worker session.old seat.old context.now.number context.now.moment) event out (worker session.new seat.new context.now.number context.now.moment)
-        × Appends (W.contents output.old) (W.contents output.new) out) }
+        × AreWritten (written (W.contents output.old) writes.old) (written (W.contents output.new) writes.new) out) }
     ensures failed { IfErr result (λ e. (out : List ℕ) × Halts context.now.shards.now (worker session.old seat.old context.now.number context.now.moment) event e out session.new.session seat.new
-        × Appends (W.contents output.old) (W.contents output.new) out) }
+        × AreWritten (written (W.contents output.old) writes.old) (written (W.contents output.new) writes.new) out) }
     ensures unread { IfErr result (λ e. e ≢ errors.Read) }
-    ensures idle { result ≡ Ok true → Idles (worker session.old seat.old context.now.number context.now.moment) event (worker session.new seat.new context.now.number context.now.moment) × Appends (W.contents output.old) (W.contents output.new) [] }
+    ensures balks { (sent : ℕ) → result ≡ Err (errors.Write sent) → Balks (written (W.contents output.old) writes.old) (written (W.contents output.new) writes.new) }
+    ensures idle { result ≡ Ok true → Idles (worker session.old seat.old context.now.number context.now.moment) event (worker session.new seat.new context.now.number context.now.moment) × AreWritten (written (W.contents output.old) writes.old) (written (W.contents output.new) writes.new) [] }
     ensures refused { (e : SessionError) → e ≢ refusals.Memory → Refuses session.old.session.phase event e
-        → (result ≡ Err (errors.Session e)) × (output.new ≡ output.old) }
+        → (result ≡ Err (errors.Session e)) × (output.new ≡ output.old) × (writes.new ≡ writes.old) }
 {
     let first = session.on(event, context.moment)?;
     let may_idle = are_pushes(first.as_slice());
-    let second = do_all(context, session, output, seat, first)?;
+    let second = do_all(context, session, output, writes, seat, first)?;
     let is_idle = may_idle && second.is_empty();
-    let third = do_all(context, session, output, seat, second)?;
-    let fourth = do_all(context, session, output, seat, third)?;
-    do_all(context, session, output, seat, fourth)?;
+    let third = do_all(context, session, output, writes, seat, second)?;
+    let fourth = do_all(context, session, output, writes, seat, third)?;
+    do_all(context, session, output, writes, seat, fourth)?;
     Ok(is_idle)
 }
 
@@ -123,6 +128,7 @@ fn receive<H: Wait, G: Gate, R: Read + Faults, W: Write + Faults>(
     session: &mut Session,
     input: &mut R,
     output: &mut W,
+    writes: &mut Writes,
     seat: &mut Seat,
 ) -> Result<bool, EngineError>
     ensures seat { seat.new.number ≡ seat.old.number }
@@ -130,18 +136,19 @@ fn receive<H: Wait, G: Gate, R: Read + Faults, W: Write + Faults>(
     ensures done { OnOk result ((received : Option Event) × (read out : List ℕ) × IsRead (IsAtEnd (R.remaining input.new)) received read
         × Receives (worker session.old seat.old context.now.number context.now.moment) received out (worker session.new seat.new context.now.number context.now.moment)
         × Consumes (R.remaining input.old) (R.remaining input.new) read
-        × Appends (W.contents output.old) (W.contents output.new) out) }
+        × AreWritten (written (W.contents output.old) writes.old) (written (W.contents output.new) writes.new) out) }
     ensures nothing { result ≡ Ok true → Consumes (R.remaining input.old) (R.remaining input.new) []
-        × (session.new ≡ session.old) × (seat.new ≡ seat.old) × (output.new ≡ output.old) }
+        × (session.new ≡ session.old) × (seat.new ≡ seat.old) × (output.new ≡ output.old) × (writes.new ≡ writes.old) }
     ensures failed { IfErr result (λ e. (received : Option Event) × (read out : List ℕ) × IsRead (IsAtEnd (R.remaining input.new)) received read
         × HaltsAt context.now.shards.now (worker session.old seat.old context.now.number context.now.moment) received e out session.new.session seat.new
         × Consumes (R.remaining input.old) (R.remaining input.new) read
-        × Appends (W.contents output.old) (W.contents output.new) out) }
+        × AreWritten (written (W.contents output.old) writes.old) (written (W.contents output.new) writes.new) out) }
     ensures read { result ≡ Err errors.Read → Rose (R.failed input.old) (R.failed input.new) }
+    ensures balks { (sent : ℕ) → result ≡ Err (errors.Write sent) → Balks (written (W.contents output.old) writes.old) (written (W.contents output.new) writes.new) }
 {
     match read_event(context.alloc, input)? {
         Some(event) => {
-            react(context, session, output, seat, event)?;
+            react(context, session, output, writes, seat, event)?;
             Ok(false)
         }
         None => Ok(true),
@@ -155,6 +162,7 @@ fn take_turn<H: Wait, G: Gate, R: Read + Faults, W: Write + Faults>(
     session: &mut Session,
     input: &mut R,
     output: &mut W,
+    writes: &mut Writes,
     seat: &mut Seat,
 ) -> Result<bool, EngineError>
     ensures seat { seat.new.number ≡ seat.old.number }
@@ -162,20 +170,21 @@ fn take_turn<H: Wait, G: Gate, R: Read + Faults, W: Write + Faults>(
     ensures done { OnOk result ((received : Option Event) × (read out : List ℕ) × IsRead (IsAtEnd (R.remaining input.new)) received read
         × TakesTurn (input.new ≡ input.old) (worker session.old seat.old context.now.number context.now.moment) received out (worker session.new seat.new context.now.number context.now.moment)
         × Consumes (R.remaining input.old) (R.remaining input.new) read
-        × Appends (W.contents output.old) (W.contents output.new) out) }
+        × AreWritten (written (W.contents output.old) writes.old) (written (W.contents output.new) writes.new) out) }
     ensures idle { result ≡ Ok true → Idles (worker session.old seat.old context.now.number context.now.moment) (first_event (state_of session.old.session.phase)) (worker session.new seat.new context.now.number context.now.moment)
-        × Consumes (R.remaining input.old) (R.remaining input.new) [] × Appends (W.contents output.old) (W.contents output.new) [] }
+        × Consumes (R.remaining input.old) (R.remaining input.new) [] × AreWritten (written (W.contents output.old) writes.old) (written (W.contents output.new) writes.new) [] }
     ensures failed { IfErr result (λ e. (received : Option Event) × (read out : List ℕ) × IsRead (IsAtEnd (R.remaining input.new)) received read
         × StopsTurn context.now.shards.now (input.new ≡ input.old) (worker session.old seat.old context.now.number context.now.moment) received e out session.new.session seat.new
         × Consumes (R.remaining input.old) (R.remaining input.new) read
-        × Appends (W.contents output.old) (W.contents output.new) out) }
+        × AreWritten (written (W.contents output.old) writes.old) (written (W.contents output.new) writes.new) out) }
     ensures read { result ≡ Err errors.Read → Rose (R.failed input.old) (R.failed input.new) }
+    ensures balks { (sent : ℕ) → result ≡ Err (errors.Write sent) → Balks (written (W.contents output.old) writes.old) (written (W.contents output.new) writes.new) }
     ensures refused { (e : SessionError) → e ≢ refusals.Memory → Refuses session.old.session.phase (first_event (state_of session.old.session.phase)) e
-        → (result ≡ Err (errors.Session e)) × (input.new ≡ input.old) × (output.new ≡ output.old) }
+        → (result ≡ Err (errors.Session e)) × (input.new ≡ input.old) × (output.new ≡ output.old) × (writes.new ≡ writes.old) }
 {
     let event = first_event(session.state());
-    if react(context, session, output, seat, event)? {
-        receive(context, session, input, output, seat)
+    if react(context, session, output, writes, seat, event)? {
+        receive(context, session, input, output, writes, seat)
     } else {
         Ok(false)
     }
@@ -192,6 +201,7 @@ fn reopen_all<H: Wait, G>(
     ensures reopened { OnOk result (AreReopened context.now.number version seat.old tables.now seat.new) }
     ensures left { IfErr result (λ e. FailsToReopen context.now.shards.now context.now.number version seat.old tables.now e seat.new) }
     ensures unread { IfErr result (λ e. e ≢ errors.Read) }
+    ensures unwritten { IfErr result (λ e. (sent : ℕ) → e ≢ errors.Write sent) }
 {
     for table in tables {
         reopen(context, seat, *table, version)?;
@@ -205,18 +215,20 @@ fn take_tick<H: Wait, G: Gate, W: Write + Faults>(
     context: &Context<H, G>,
     session: &mut Session,
     output: &mut W,
+    writes: &mut Writes,
     seat: &mut Seat,
 ) -> Result<bool, EngineError>
     ensures seat { seat.new.number ≡ seat.old.number }
     ensures manner { is_staying session.new.manner ≡ is_staying session.old.manner }
     ensures done { OnOk result ((out : List ℕ) × TakesTick (worker session.old seat.old context.now.number context.now.moment) out (worker session.new seat.new context.now.number context.now.moment)
-        × Appends (W.contents output.old) (W.contents output.new) out) }
+        × AreWritten (written (W.contents output.old) writes.old) (written (W.contents output.new) writes.new) out) }
     ensures failed { IfErr result (λ e. (out : List ℕ) × StopsTick context.now.shards.now (worker session.old seat.old context.now.number context.now.moment) e out session.new.session seat.new
-        × Appends (W.contents output.old) (W.contents output.new) out) }
+        × AreWritten (written (W.contents output.old) writes.old) (written (W.contents output.new) writes.new) out) }
     ensures unread { IfErr result (λ e. e ≢ errors.Read) }
-    ensures idle { result ≡ Ok true → IsTicked session.old context.now.moment [] [] session.new × (seat.new ≡ seat.old) × Appends (W.contents output.old) (W.contents output.new) [] }
+    ensures balks { (sent : ℕ) → result ≡ Err (errors.Write sent) → Balks (written (W.contents output.old) writes.old) (written (W.contents output.new) writes.new) }
+    ensures idle { result ≡ Ok true → IsTicked session.old context.now.moment [] [] session.new × (seat.new ≡ seat.old) × AreWritten (written (W.contents output.old) writes.old) (written (W.contents output.new) writes.new) [] }
     ensures refused { (e : SessionError) → e ≢ refusals.Memory → Refuses session.old.session.phase events.Turn e
-        → (result ≡ Err (errors.Session e)) × (output.new ≡ output.old) }
+        → (result ≡ Err (errors.Session e)) × (output.new ≡ output.old) × (writes.new ≡ writes.old) }
 {
     let Ticked { left, actions } = session.tick(context.moment)?;
     let is_idle = left.is_empty() && actions.is_empty();
@@ -226,7 +238,7 @@ fn take_tick<H: Wait, G: Gate, W: Write + Faults>(
         left.as_slice(),
         opened_with(session.version()),
     )?;
-    do_all(context, session, output, seat, actions)?;
+    do_all(context, session, output, writes, seat, actions)?;
     Ok(is_idle)
 }
 
@@ -263,12 +275,13 @@ pub(crate) fn turn_and_end<H: Wait, G: Gate, R: Read + Faults, W: Write + Faults
     session: &mut Session,
     input: &mut R,
     output: &mut W,
+    writes: &mut Writes,
     seat: &mut Seat,
 ) -> Result<Outcome, EngineError>
     ensures run { OnOk result (Turns context.now.moment session.old session.new) }
     ensures closed { IfOk result (λ outcome. (outcome ≡ outcomes.Closed) ↔ (state_of session.new.session.phase ≡ states.Ended)) }
     ensures idled { result ≡ Ok outcomes.Idled → Idles (worker session.old seat.old context.now.number context.now.moment) (first_event (state_of session.old.session.phase)) (worker session.new seat.new context.now.number context.now.moment)
-        × Consumes (R.remaining input.old) (R.remaining input.new) [] × Appends (W.contents output.old) (W.contents output.new) [] }
+        × Consumes (R.remaining input.old) (R.remaining input.new) [] × AreWritten (written (W.contents output.old) writes.old) (written (W.contents output.new) writes.new) [] }
     ensures broken { OnErr result (Breaks context.now.moment session.old session.new.session) }
     ensures ended { OnErr result (state_of session.new.session.phase ≡ states.Ended) }
     ensures seat { seat.new.number ≡ seat.old.number }
@@ -276,18 +289,19 @@ pub(crate) fn turn_and_end<H: Wait, G: Gate, R: Read + Faults, W: Write + Faults
     ensures written { OnOk result ((received : Option Event) × (read out : List ℕ) × IsRead (IsAtEnd (R.remaining input.new)) received read
         × TakesTurn (input.new ≡ input.old) (worker session.old seat.old context.now.number context.now.moment) received out (worker session.new seat.new context.now.number context.now.moment)
         × Consumes (R.remaining input.old) (R.remaining input.new) read
-        × Appends (W.contents output.old) (W.contents output.new) out) }
+        × AreWritten (written (W.contents output.old) writes.old) (written (W.contents output.new) writes.new) out) }
     ensures stopped { IfErr result (λ e. (received : Option Event) × (read out : List ℕ) × IsRead (IsAtEnd (R.remaining input.new)) received read
         × StopsTurn context.now.shards.now (input.new ≡ input.old) (worker session.old seat.old context.now.number context.now.moment) received e out session.new.session seat.new
         × Consumes (R.remaining input.old) (R.remaining input.new) read
-        × Appends (W.contents output.old) (W.contents output.new) out) }
+        × AreWritten (written (W.contents output.old) writes.old) (written (W.contents output.new) writes.new) out) }
     ensures read { result ≡ Err errors.Read → Rose (R.failed input.old) (R.failed input.new) }
+    ensures balks { (sent : ℕ) → result ≡ Err (errors.Write sent) → Balks (written (W.contents output.old) writes.old) (written (W.contents output.new) writes.new) }
     ensures refused { (e : SessionError) → e ≢ refusals.Memory → Refuses session.old.session.phase (first_event (state_of session.old.session.phase)) e
-        → (result ≡ Err (errors.Session e)) × (input.new ≡ input.old) × (output.new ≡ output.old) }
+        → (result ≡ Err (errors.Session e)) × (input.new ≡ input.old) × (output.new ≡ output.old) × (writes.new ≡ writes.old) }
     ensures over { state_of session.old.session.phase ≡ states.Ended
-        → (result ≡ Err (errors.Session refusals.Ended)) × (input.new ≡ input.old) × (output.new ≡ output.old) }
+        → (result ≡ Err (errors.Session refusals.Ended)) × (input.new ≡ input.old) × (output.new ≡ output.old) × (writes.new ≡ writes.old) }
 {
-    match take_turn(context, session, input, output, seat) {
+    match take_turn(context, session, input, output, writes, seat) {
         Ok(is_idle) => Ok(outcome(session, is_idle)),
         Err(error) => {
             end(context, session, error);
@@ -301,25 +315,27 @@ pub(crate) fn tick_and_end<H: Wait, G: Gate, W: Write + Faults>(
     context: &Context<H, G>,
     session: &mut Session,
     output: &mut W,
+    writes: &mut Writes,
     seat: &mut Seat,
 ) -> Result<Outcome, EngineError>
     ensures ticked { OnOk result ((out : List ℕ) × TakesTick (worker session.old seat.old context.now.number context.now.moment) out (worker session.new seat.new context.now.number context.now.moment)
-        × Appends (W.contents output.old) (W.contents output.new) out) }
+        × AreWritten (written (W.contents output.old) writes.old) (written (W.contents output.new) writes.new) out) }
     ensures closed { IfOk result (λ outcome. (outcome ≡ outcomes.Closed) ↔ (state_of session.new.session.phase ≡ states.Ended)) }
     ensures idled { result ≡ Ok outcomes.Idled → IsTicked session.old context.now.moment [] [] session.new × (seat.new ≡ seat.old)
-        × Appends (W.contents output.old) (W.contents output.new) [] }
+        × AreWritten (written (W.contents output.old) writes.old) (written (W.contents output.new) writes.new) [] }
     ensures ended { OnErr result (state_of session.new.session.phase ≡ states.Ended) }
     ensures stopped { IfErr result (λ e. (out : List ℕ) × StopsTick context.now.shards.now (worker session.old seat.old context.now.number context.now.moment) e out session.new.session seat.new
-        × Appends (W.contents output.old) (W.contents output.new) out) }
+        × AreWritten (written (W.contents output.old) writes.old) (written (W.contents output.new) writes.new) out) }
     ensures unread { IfErr result (λ e. e ≢ errors.Read) }
+    ensures balks { (sent : ℕ) → result ≡ Err (errors.Write sent) → Balks (written (W.contents output.old) writes.old) (written (W.contents output.new) writes.new) }
     ensures refused { (e : SessionError) → e ≢ refusals.Memory → Refuses session.old.session.phase events.Turn e
-        → (result ≡ Err (errors.Session e)) × (output.new ≡ output.old) }
+        → (result ≡ Err (errors.Session e)) × (output.new ≡ output.old) × (writes.new ≡ writes.old) }
     ensures over { state_of session.old.session.phase ≡ states.Ended
-        → (result ≡ Err (errors.Session refusals.Ended)) × (output.new ≡ output.old) }
+        → (result ≡ Err (errors.Session refusals.Ended)) × (output.new ≡ output.old) × (writes.new ≡ writes.old) }
     ensures seat { seat.new.number ≡ seat.old.number }
     ensures manner { is_staying session.new.manner ≡ is_staying session.old.manner }
 {
-    match take_tick(context, session, output, seat) {
+    match take_tick(context, session, output, writes, seat) {
         Ok(is_idle) => Ok(outcome(session, is_idle)),
         Err(error) => {
             end(context, session, error);
@@ -384,7 +400,8 @@ pub fn turn<H: Wait, R: Read + Faults, W: Write + Faults, G: Gate>(
         number,
         moment: now,
     };
-    match turn_and_end(&context, session, input, output, &mut seat) {
+    let mut writes = Writes::none();
+    match turn_and_end(&context, session, input, output, &mut writes, &mut seat) {
         Ok(outcome) => (seat, Ok(outcome.turned())),
         Err(error) => (seat, Err(error)),
     }

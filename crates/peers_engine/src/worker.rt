@@ -1,7 +1,8 @@
 //! A session at work.
 
 ghost use Rattle.std.specs.Prelude.{◌≡◌, ◌≢◌, ◌↔◌, [], ℕ, List, Ok, Option, Err, IfErr, IfOk, OnErr, OnOk};
-ghost use Rattle.std.specs.Io.KnownBytes.{Appends, Consumes, IsAtEnd};
+ghost use Rattle.std.specs.Io.KnownBytes.{Consumes, IsAtEnd};
+ghost use Rattle.peers_devices.specs.Writing.{AreWritten, Balks, written};
 ghost use Rattle.peers_devices.specs.Failures.{Rose};
 ghost use Rattle.peers_msg.specs.declared.control.Control.TheVariants as controls;
 ghost use Rattle.session_core.specs.declared.error.SessionError.{SessionError};
@@ -26,7 +27,7 @@ use crate::errors::EngineError;
 use crate::gate::{AlwaysOpen, Gate};
 use crate::outcome::Outcome;
 use crate::turning::{tick_and_end, turn_and_end};
-use peers_devices::Faults;
+use peers_devices::{Faults, Writes};
 use session_core::{Event, Session, State};
 use std::alloc::Global;
 use std::io::{Read, Write};
@@ -50,7 +51,7 @@ pub struct Worker {
 
 impl Worker {
     /// Takes one turn of the session, as the function `turn` does for one whose parts stand alone. The seat keeps the
-    /// receipts of what the turn did, after an error too.
+    /// receipts of what the turn did, after an error too. Adds what the turn's writes to `output` came to to `writes`.
     ///
     /// Each learn and each copy comes at `now`; for a session that stays it comes at the table's latest moment if that is later.
     pub fn turn<H: Wait, R: Read + Faults, W: Write + Faults, G: Gate>(
@@ -59,6 +60,7 @@ impl Worker {
         alloc: Global,
         input: &mut R,
         output: &mut W,
+        writes: &mut Writes,
         gate: &G,
         shards: &Shards,
         now: Moment,
@@ -67,7 +69,7 @@ impl Worker {
         ensures closed { IfOk result (λ outcome. (outcome ≡ outcomes.Closed) ↔ (state_of self.new.session.session.phase ≡ states.Ended)) }
         ensures idled { result ≡ Ok outcomes.Idled
             → Idles (worker self.old.session self.old.seat self.old.number now) (first_event (state_of self.old.session.session.phase)) (worker self.new.session self.new.seat self.new.number now)
-            × Consumes (R.remaining input.old) (R.remaining input.new) [] × Appends (W.contents output.old) (W.contents output.new) [] }
+            × Consumes (R.remaining input.old) (R.remaining input.new) [] × AreWritten (written (W.contents output.old) writes.old) (written (W.contents output.new) writes.new) [] }
         ensures broken { OnErr result (Breaks now self.old.session self.new.session.session) }
         ensures ended { OnErr result (state_of self.new.session.session.phase ≡ states.Ended) }
         ensures seat { self.new.seat.number ≡ self.old.seat.number }
@@ -76,16 +78,17 @@ impl Worker {
         ensures written { OnOk result ((received : Option Event) × (read out : List ℕ) × IsRead (IsAtEnd (R.remaining input.new)) received read
             × TakesTurn (input.new ≡ input.old) (worker self.old.session self.old.seat self.old.number now) received out (worker self.new.session self.new.seat self.new.number now)
             × Consumes (R.remaining input.old) (R.remaining input.new) read
-            × Appends (W.contents output.old) (W.contents output.new) out) }
+            × AreWritten (written (W.contents output.old) writes.old) (written (W.contents output.new) writes.new) out) }
         ensures stopped { IfErr result (λ e. (received : Option Event) × (read out : List ℕ) × IsRead (IsAtEnd (R.remaining input.new)) received read
             × StopsTurn shards.now (input.new ≡ input.old) (worker self.old.session self.old.seat self.old.number now) received e out self.new.session.session self.new.seat
             × Consumes (R.remaining input.old) (R.remaining input.new) read
-            × Appends (W.contents output.old) (W.contents output.new) out) }
+            × AreWritten (written (W.contents output.old) writes.old) (written (W.contents output.new) writes.new) out) }
         ensures read { result ≡ Err errors.Read → Rose (R.failed input.old) (R.failed input.new) }
+        ensures balks { (sent : ℕ) → result ≡ Err (errors.Write sent) → Balks (written (W.contents output.old) writes.old) (written (W.contents output.new) writes.new) }
         ensures refused { (e : SessionError) → e ≢ refusals.Memory → Refuses self.old.session.session.phase (first_event (state_of self.old.session.session.phase)) e
-            → (result ≡ Err (errors.Session e)) × (input.new ≡ input.old) × (output.new ≡ output.old) }
+            → (result ≡ Err (errors.Session e)) × (input.new ≡ input.old) × (output.new ≡ output.old) × (writes.new ≡ writes.old) }
         ensures over { state_of self.old.session.session.phase ≡ states.Ended
-            → (result ≡ Err (errors.Session refusals.Ended)) × (input.new ≡ input.old) × (output.new ≡ output.old) }
+            → (result ≡ Err (errors.Session refusals.Ended)) × (input.new ≡ input.old) × (output.new ≡ output.old) × (writes.new ≡ writes.old) }
     {
         let context = Context {
             rt,
@@ -95,32 +98,41 @@ impl Worker {
             number: self.number,
             moment: now,
         };
-        turn_and_end(&context, &mut self.session, input, output, &mut self.seat)
+        turn_and_end(
+            &context,
+            &mut self.session,
+            input,
+            output,
+            writes,
+            &mut self.seat,
+        )
     }
 
     /// Takes a tick of the session: reopens the session in the tables that it leaves, and performs what it asks for. Doesn't read.
-    /// After an error the session is over, as after one of a turn.
+    /// After an error the session is over, as after one of a turn. Adds what its writes to `output` came to to `writes`.
     pub fn tick<H: Wait, W: Write + Faults>(
         &mut self,
         rt: &H,
         alloc: Global,
         output: &mut W,
+        writes: &mut Writes,
         shards: &Shards,
         now: Moment,
     ) -> Result<Outcome, EngineError>
         ensures ticked { OnOk result ((out : List ℕ) × TakesTick (worker self.old.session self.old.seat self.old.number now) out (worker self.new.session self.new.seat self.new.number now)
-            × Appends (W.contents output.old) (W.contents output.new) out) }
+            × AreWritten (written (W.contents output.old) writes.old) (written (W.contents output.new) writes.new) out) }
         ensures closed { IfOk result (λ outcome. (outcome ≡ outcomes.Closed) ↔ (state_of self.new.session.session.phase ≡ states.Ended)) }
         ensures idled { result ≡ Ok outcomes.Idled → IsTicked self.old.session now [] [] self.new.session × (self.new.seat ≡ self.old.seat)
-            × Appends (W.contents output.old) (W.contents output.new) [] }
+            × AreWritten (written (W.contents output.old) writes.old) (written (W.contents output.new) writes.new) [] }
         ensures ended { OnErr result (state_of self.new.session.session.phase ≡ states.Ended) }
         ensures stopped { IfErr result (λ e. (out : List ℕ) × StopsTick shards.now (worker self.old.session self.old.seat self.old.number now) e out self.new.session.session self.new.seat
-            × Appends (W.contents output.old) (W.contents output.new) out) }
+            × AreWritten (written (W.contents output.old) writes.old) (written (W.contents output.new) writes.new) out) }
         ensures unread { IfErr result (λ e. e ≢ errors.Read) }
+        ensures balks { (sent : ℕ) → result ≡ Err (errors.Write sent) → Balks (written (W.contents output.old) writes.old) (written (W.contents output.new) writes.new) }
         ensures refused { (e : SessionError) → e ≢ refusals.Memory → Refuses self.old.session.session.phase events.Turn e
-            → (result ≡ Err (errors.Session e)) × (output.new ≡ output.old) }
+            → (result ≡ Err (errors.Session e)) × (output.new ≡ output.old) × (writes.new ≡ writes.old) }
         ensures over { state_of self.old.session.session.phase ≡ states.Ended
-            → (result ≡ Err (errors.Session refusals.Ended)) × (output.new ≡ output.old) }
+            → (result ≡ Err (errors.Session refusals.Ended)) × (output.new ≡ output.old) × (writes.new ≡ writes.old) }
         ensures seat { self.new.seat.number ≡ self.old.seat.number }
         ensures number { self.new.number ≡ self.old.number }
         ensures manner { is_staying self.new.session.manner ≡ is_staying self.old.session.manner }
@@ -133,22 +145,24 @@ impl Worker {
             number: self.number,
             moment: now,
         };
-        tick_and_end(&context, &mut self.session, output, &mut self.seat)
+        tick_and_end(&context, &mut self.session, output, writes, &mut self.seat)
     }
 
     /// Requests a resync if the session is open, and returns whether it did: no other session has anything to request. After
-    /// an error, which is a write, the session is over.
+    /// an error, which is a write, the session is over. Adds what its writes to `output` came to to `writes`.
     pub fn request<W: Write + Faults>(
         &mut self,
         output: &mut W,
+        writes: &mut Writes,
         now: Moment,
     ) -> Result<bool, EngineError>
         ensures requested { IfOk result (λ done. done ≡ can_request (state_of self.old.session.session.phase)) }
-        ensures written { IfOk result (λ done. Appends (W.contents output.old) (W.contents output.new) (request_text done)) }
+        ensures written { IfOk result (λ done. AreWritten (written (W.contents output.old) writes.old) (written (W.contents output.new) writes.new) (request_text done)) }
         ensures session { IfOk result (λ done. self.new.session ≡ after_request done now self.old.session) }
         ensures ended { OnErr result (state_of self.new.session.session.phase ≡ states.Ended) }
-        ensures stopped { IfErr result (λ e. Falls (control_text controls.ResyncRequest) e (W.contents output.old) (W.contents output.new)
+        ensures stopped { IfErr result (λ e. Falls (control_text controls.ResyncRequest) e (written (W.contents output.old) writes.old) (written (W.contents output.new) writes.new)
             × (self.new.session.session ≡ ended self.old.session.session)) }
+        ensures balks { OnErr result (Balks (written (W.contents output.old) writes.old) (written (W.contents output.new) writes.new)) }
         ensures seat { self.new.seat ≡ self.old.seat }
         ensures number { self.new.number ≡ self.old.number }
         ensures manner { is_staying self.new.session.manner ≡ is_staying self.old.session.manner }
@@ -156,7 +170,7 @@ impl Worker {
         if !matches!(self.session.state(), State::Ready | State::Teaching) {
             return Ok(false);
         }
-        match send(output, &RESYNC_REQUEST_BYTES) {
+        match send(output, writes, &RESYNC_REQUEST_BYTES) {
             Ok(()) => {
                 self.session.note_sent(now);
                 Ok(true)

@@ -1,12 +1,14 @@
 //! Writing all of a lesson.
 
-ghost use Rattle.std.specs.Prelude.{◌≡◌, ◌+◌, ◌++◌, ◌<◌, ℕ, true, false, [], IfErr, IfOk, OnErr, OnOk, length, take};
+ghost use Rattle.std.specs.Prelude.{◌≡◌, ◌+◌, ◌++◌, ◌<◌, ℕ, true, false, [], Err, IfErr, IfOk, OnErr, OnOk, length, take};
 ghost use Rattle.std.specs.Io.KnownBytes.{Appends};
+ghost use Rattle.peers_devices.specs.Writing.{AreWritten, Balks, written};
 ghost use Rattle.teach_writer.specs.Pieces.{bytes_left};
+ghost use Rattle.peers_engine.specs.declared.writing.PiecesError.TheVariants as errors;
 ghost use Rattle.peers_engine.specs.Writing.{sent_of};
 
 use known_state::Known;
-use peers_devices::{Faults, WriteError, write_all};
+use peers_devices::{Faults, WriteError, Writes, write_all_counted};
 use std::alloc::Global;
 use std::io::Write;
 use table_types::Memory;
@@ -33,7 +35,22 @@ pub fn write_lesson<W: Write + Faults>(output: &mut W, lesson: &[u8]) -> Result<
     ensures sent { IfErr result (λ fault. Appends (W.contents output.old) (W.contents output.new) (take fault.sent lesson.now)) }
     ensures within { IfErr result (λ fault. fault.sent < length lesson.now) }
 {
-    match write_all(output, lesson) {
+    let mut writes = Writes::none();
+    write_counted(output, &mut writes, lesson)
+}
+
+/// Writes all of the bytes as `write_lesson` does, and adds what the writes came to to `writes`.
+pub(crate) fn write_counted<W: Write + Faults>(
+    output: &mut W,
+    writes: &mut Writes,
+    bytes: &[u8],
+) -> Result<(), WriteFault>
+    ensures ok { OnOk result (AreWritten (written (W.contents output.old) writes.old) (written (W.contents output.new) writes.new) bytes.now) }
+    ensures sent { IfErr result (λ fault. AreWritten (written (W.contents output.old) writes.old) (written (W.contents output.new) writes.new) (take fault.sent bytes.now)) }
+    ensures within { IfErr result (λ fault. fault.sent < length bytes.now) }
+    ensures balks { OnErr result (Balks (written (W.contents output.old) writes.old) (written (W.contents output.new) writes.new)) }
+{
+    match write_all_counted(output, writes, bytes) {
         Ok(()) => Ok(()),
         Err(WriteError::Failed { sent } | WriteError::Stuck { sent }) => Err(WriteFault { sent }),
     }
@@ -77,18 +94,20 @@ fn gather(pieces: &mut Pieces, bytes: &mut Vec<u8>) -> Result<bool, Memory>
 /// Returns whether a piece may be left.
 fn write_next<W: Write + Faults>(
     output: &mut W,
+    writes: &mut Writes,
     pieces: &mut Pieces,
     bytes: &mut Vec<u8>,
     sent: &mut usize,
 ) -> Result<bool, PiecesError>
     ensures written { OnOk result ((bytes.new.items ++ bytes_left pieces.new ≡ bytes_left pieces.old)
         × (sent.new ≡ sent.old + length bytes.new.items)
-        × Appends (W.contents output.old) (W.contents output.new) bytes.new.items) }
+        × AreWritten (written (W.contents output.old) writes.old) (written (W.contents output.new) writes.new) bytes.new.items) }
     ensures fewer { IfOk result (λ more. more ≡ true → length pieces.new.messages < length pieces.old.messages) }
     ensures last { IfOk result (λ more. more ≡ false → (pieces.new.messages ≡ []) × (pieces.new.ended ≡ true)) }
     ensures same { OnOk result ((pieces.new.prices ≡ pieces.old.prices) × (pieces.new.known ≡ pieces.old.known)) }
     ensures failed { IfErr result (λ error. (count : ℕ) × (sent_of error ≡ sent.old + count) × (count < length (bytes_left pieces.old))
-        × Appends (W.contents output.old) (W.contents output.new) (take count (bytes_left pieces.old))) }
+        × AreWritten (written (W.contents output.old) writes.old) (written (W.contents output.new) writes.new) (take count (bytes_left pieces.old))) }
+    ensures balks { (count : ℕ) → result ≡ Err (errors.Write count) → Balks (written (W.contents output.old) writes.old) (written (W.contents output.new) writes.new) }
 {
     let before = *sent;
     let Ok(more) = gather(pieces, bytes) else {
@@ -98,7 +117,7 @@ fn write_next<W: Write + Faults>(
     let Some(after) = before.checked_add(bytes.len()) else {
         return Err(PiecesError::Memory { sent: before });
     };
-    match write_lesson(output, bytes.as_slice()) {
+    match write_counted(output, writes, bytes.as_slice()) {
         Ok(()) => {
             *sent = after;
             Ok(more)
@@ -112,20 +131,22 @@ fn write_next<W: Write + Faults>(
 /// Writes what is left of a lesson, and returns its prices and what the learner knows after it. The pieces are gathered in one
 /// buffer, which is written once it has 16,384 bytes or no piece is left, so the lesson never needs memory as a whole.
 ///
-/// Gives up on a write as `write_lesson` does.
+/// Gives up on a write as `write_lesson` does. Adds what the writes came to to `writes`.
 pub fn write_pieces<W: Write + Faults>(
     alloc: Global,
     output: &mut W,
+    writes: &mut Writes,
     mut pieces: Pieces,
 ) -> Result<(Vec<u64>, Known), PiecesError>
-    ensures ok { OnOk result (Appends (W.contents output.old) (W.contents output.new) (bytes_left pieces)) }
+    ensures ok { OnOk result (AreWritten (written (W.contents output.old) writes.old) (written (W.contents output.new) writes.new) (bytes_left pieces)) }
     ensures end { IfOk result (λ end. (end.0.items ≡ pieces.prices) × (end.1 ≡ pieces.known)) }
-    ensures sent { IfErr result (λ error. Appends (W.contents output.old) (W.contents output.new) (take (sent_of error) (bytes_left pieces))) }
+    ensures sent { IfErr result (λ error. AreWritten (written (W.contents output.old) writes.old) (written (W.contents output.new) writes.new) (take (sent_of error) (bytes_left pieces))) }
     ensures within { IfErr result (λ error. sent_of error < length (bytes_left pieces)) }
+    ensures balks { (count : ℕ) → result ≡ Err (errors.Write count) → Balks (written (W.contents output.old) writes.old) (written (W.contents output.new) writes.new) }
 {
     let mut bytes = Vec::new(alloc);
     let mut sent = 0;
-    while write_next(output, &mut pieces, &mut bytes, &mut sent)? {}
+    while write_next(output, writes, &mut pieces, &mut bytes, &mut sent)? {}
     match pieces.end() {
         Ok(end) => Ok(end),
         Err(_) => unreachable!(),

@@ -1,6 +1,6 @@
 -- A session that holds only bytes goes on to hold only bytes.
-use Rattle.std.proofs.Common.{◌≡◌, ℕ, Bool, true, false, List, [], ◌∷◌, ◌++◌, Option, Some, None, Ok, Err, sym, subst, arith, inl, inr}
-use Rattle.std.specs.Prelude.{drop}
+use Rattle.std.proofs.Common.{◌≡◌, ℕ, zero, suc, ◌<◌, Bool, true, false, List, [], ◌∷◌, ◌++◌, Option, Some, None, Ok, Err, sym, subst, arith, inl, inr}
+use Rattle.std.specs.Prelude.{drop, slice_index}
 use Rattle.std.specs.List.{AllByRecursion}
 use Rattle.table_types.specs.Tables.{Definition}
 use Rattle.table_types.specs.declared.copies.Settled.{Settled}
@@ -29,8 +29,12 @@ use Rattle.session_core.specs.Actions.{sends_control, status_text}
 use Rattle.session_core.specs.Courses.{Course, course_fed, table_to_ask}
 use Rattle.session_core.specs.Runs.{BringsBytes, HoldsBytes, IsBegun, Runs}
 use Rattle.session_core.specs.Sessions.{SessionState, Accepts, Connects, FinishesResync, Goes, GoesHello, GoesIn, GoesNew, GoesOpen, Greets, HasNothing, IsWelcomed, ReceivesBytes, Settles, StartsPendingResync, Turns, first_word, opening, speaking}
-use Rattle.session_core.proofs.IntakeGoesOn.{append_good}
 use Rattle.session_core.proofs.ReceivingGoesOn.{received_good}
+
+pub append_good : (a b : List ℕ) → IsBytes a → IsBytes b → (i : ℕ) → slice_index (a ++ b) i < 256
+append_good [] b one other i = other i
+append_good (x ∷ xs) b one other zero = one zero
+append_good (x ∷ xs) b one other (suc i) = append_good xs b (λ (j : ℕ). one (suc j)) other i
 
 -- the session after a step holds only bytes
 held : (e x : SessionState) → e ≡ x → HoldsBytes x.phase → HoldsBytes e.phase

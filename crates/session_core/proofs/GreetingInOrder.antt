@@ -29,7 +29,6 @@ use Rattle.session_core.specs.declared.share.Share.{Share}
 use Rattle.session_core.specs.Phases.{Phase}
 use Rattle.session_core.specs.Phases as phases
 use Rattle.session_core.specs.Actions.{confirms, sends_control, status_text}
-use Rattle.learner.specs.Intake.{fed}
 use Rattle.session_core.specs.Courses.{Course, course_fed}
 use Rattle.session_core.specs.Sessions.{Accepts, BecomesReady, Connects, GoesIn, Greets, IsWelcomed, ReceivesBytes, SessionState, ended, falling_back, falls_back, first_word, in_phase, opening, speaking}
 use Rattle.session_core.specs.Runs.{HoldsBytes, IsBegun, Runs}
@@ -41,7 +40,8 @@ use Rattle.session_core.proofs.EndLemmas.{no_control}
 use Rattle.peers_hello.specs.Meetings.{Meeting, Opens, Refuses, Stays, Waits, by_answer, by_status, opens_if}
 use Rattle.session_core.proofs.GreetedHoweverCut.{meeting, meeting_stays}
 use Rattle.session_core.proofs.HeardHoweverCut.{AreAlike, Comes, come_alike, confirmed_same, follows_all, none_follow, out_comes, piece_comes, says_nothing, sharing_of}
-use Rattle.session_core.proofs.IntakeGoesOn.{append_good}
+use Rattle.session_core.proofs.BytesStay.{append_good}
+use Rattle.session_core.proofs.ReadersGoOn.{fed, reading_of}
 use Rattle.session_core.proofs.MessagesInOrder.{course_of, passed_reopens, plain, plain_reopens}
 use Rattle.session_core.proofs.RunLaws.{none_due_in_hello}
 use Rattle.session_core.proofs.SameHoweverFed.{after_good}
@@ -134,7 +134,7 @@ opened_with version c = record (sharing_of c) { reopened = list_any is_reopen (o
 
 -- what a run comes to, by what its bytes amount to
 abbrev CameTo : (ℕ → ℕ → Bool) → Course → SessionState → Greeter → List ℕ → Meeting → List Action → SessionState → List (ℕ × ℕ) → Type 0
-CameTo settles c s greeter bytes (Opens version rest) acts e left = Comes requested_in settles c false c.intake (opened_with version c) [] (speaking version s) rest acts e left
+CameTo settles c s greeter bytes (Opens version rest) acts e left = Comes requested_in settles c false (reading_of c) (opened_with version c) [] (speaking version s) rest acts e left
 CameTo settles c s greeter bytes (Refuses code) acts e left = (plain acts ≡ actions.Close ∷ []) × (confirms acts ≡ false) × (e ≡ ended (falling_back (refusal greeter code) s))
 CameTo settles c s greeter bytes Waits acts e left = (acts ≡ []) × (e ≡ in_phase s (phases.Hello greeter bytes c))
 
@@ -161,9 +161,9 @@ came_first settles c greeter s mid e bytes (Opens version more) acts steps rest 
     let opened : a.reopened ≡ (is_reopen first || a.reopened) = sym (ap (λ (b : Bool). b || a.reopened) sends) in
     let good_more : IsBytes more = meeting_good greeter version bytes more (front_good bytes (heard_in steps) good) is in
     let good_all : IsBytes ((c.intake.unread ++ more) ++ heard_in steps) = append_good (c.intake.unread ++ more) (heard_in steps) (append_good c.intake.unread more unread good_more) (after_good bytes (heard_in steps) good) in
-    let gets : ReceivesBytes (speaking version s) (course_of c (fed c.intake more) a []) (first ∷ opening version c.shares) acts mid =
+    let gets : ReceivesBytes (speaking version s) (course_of c (fed (reading_of c) more) a []) (first ∷ opening version c.shares) acts mid =
     subst (λ (ds : List Due). ReceivesBytes (speaking version s) (record (course_fed c more) { due = ds }) (first ∷ opening version c.shares) acts mid) none receives in
-    let came = piece_comes settles false c c.intake a a [] (speaking version s) mid e more (first ∷ opening version c.shares) acts steps left silent opened good_all refl (fits_first settles a) gets (follows_all settles c e left steps) (subst (λ (p : List (ℕ × ℕ)). Hears settles mid p steps e left) is_rest hears) in
+    let came = piece_comes settles false c (reading_of c) a a [] (speaking version s) mid e more (first ∷ opening version c.shares) acts steps left silent opened good_all refl (fits_first settles a) gets (follows_all settles c e left steps) (subst (λ (p : List (ℕ × ℕ)). Hears settles mid p steps e left) is_rest hears) in
     subst (λ (n : Meeting). CameTo settles c s greeter (bytes ++ heard_in steps) n (acts ++ asked_in steps) e left) (sym (finds greeter bytes (heard_in steps) (Opens version more) is)) came
 came_first settles c greeter s mid e bytes (Refuses code) acts steps rest left none unread good is (tells, quiet, ends) is_rest hears later =
     let over = none_follow settles mid e rest left steps (ap (λ (t : SessionState). t.phase) ends) hears in
@@ -217,7 +217,7 @@ came_out settles c s greeter bytes more m acts e left unread good is (inl none) 
 came_out settles c s greeter bytes more (Opens version rest) acts e left unread good is (inr ended) came =
     let good_rest : IsBytes (c.intake.unread ++ rest) = append_good c.intake.unread rest unread (meeting_good greeter version bytes rest good is) in
     subst (λ (n : Meeting). CameTo settles c s greeter (bytes ++ more) n acts e left) (sym (finds greeter bytes more (Opens version rest) is))
-    (out_comes requested_in settles c false c.intake (opened_with version c) [] (speaking version s) rest more acts e left good_rest (inr ended) came)
+    (out_comes requested_in settles c false (reading_of c) (opened_with version c) [] (speaking version s) rest more acts e left good_rest (inr ended) came)
 came_out settles c s greeter bytes more (Refuses code) acts e left unread good is (inr ended) came =
     subst (λ (n : Meeting). CameTo settles c s greeter (bytes ++ more) n acts e left) (sym (finds greeter bytes more (Refuses code) is)) came
 came_out settles c s greeter bytes more Waits acts e left unread good is (inr ended) (nothing, stays) =
@@ -227,7 +227,7 @@ came_out settles c s greeter bytes more Waits acts e left unread good is (inr en
 came_alike : (settles : ℕ → ℕ → Bool) (c : Course) (s : SessionState) (greeter : Greeter) (bytes : List ℕ) (m : Meeting) (acts given : List Action) (e end : SessionState) (left over : List (ℕ × ℕ))
     → CameTo settles c s greeter bytes m acts e left → CameTo settles c s greeter bytes m given end over → AreAlike settles c s acts given e end left over
 came_alike settles c s greeter bytes (Opens version rest) acts given e end left over one other =
-    come_alike requested_in settles c c.intake (opened_with version c) (speaking version s) rest acts given e end left over one other
+    come_alike requested_in settles c (reading_of c) (opened_with version c) (speaking version s) rest acts given e end left over one other
 came_alike settles c s greeter bytes (Refuses code) acts given e end left over (tells, quiet, ends) (tells', quiet', ends') = (
   ap (without_late settles []) (tells ∙ sym tells'),
   λ first second. ends ∙ sym ends',

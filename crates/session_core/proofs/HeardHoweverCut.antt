@@ -11,7 +11,8 @@ use Rattle.peers_msg.specs.Integers.{IsBytes}
 use Rattle.peers_msg.proofs.CuttingIndependence.{front_good}
 use Rattle.learner.specs.declared.fault.Fault.{Fault}
 use Rattle.learner.specs.declared.taken.Taken.{Taken}
-use Rattle.learner.specs.Intake.{Taking, IntakeNext, due_acks, fed}
+use Rattle.learner.specs.Intake.{due_acks}
+use Rattle.tolerant_intake.specs.Reading.{Reading}
 use Rattle.peers_msg.specs.declared.message.Message.{Message}
 use Rattle.session_core.specs.declared.action.Action.{Action}
 use Rattle.session_core.specs.declared.action.Action.TheVariants as actions
@@ -26,7 +27,7 @@ use Rattle.session_core.specs.Phases.{Phase}
 use Rattle.session_core.specs.Phases as phases
 use Rattle.session_core.specs.Actions.{confirms, is_confirmation, reopens, sends_acks}
 use Rattle.session_core.specs.Shares.{is_out}
-use Rattle.session_core.specs.Courses.{Course, AreReceived, acks_given, acks_sent}
+use Rattle.session_core.specs.Courses.{Course, AreReceived, AwaitsMore, acks_given, acks_sent}
 use Rattle.session_core.specs.Sessions.{Concludes, Goes, GoesIn, GoesOpen, ReceivesBytes, SessionState, Settles, StartsPendingResync, ended, going, kind_of_fault}
 use Rattle.session_core.specs.Standing.{is_open, is_reopen, shared, without_reopens}
 use Rattle.session_core.specs.StandingSteps.{is_all}
@@ -35,11 +36,12 @@ use Rattle.session_core.specs.Runs.{HoldsBytes}
 use Rattle.session_core.specs.Hearing.{Awaits, Hears, asked_in, heard_in, passed_on, without_late}
 use Rattle.session_core.proofs.AnswersInOrder.{requested_in, Fits, Sharing, all_answered, answered_in, begins, begun_if, fits_answered, fits_first, freed, settled_if}
 use Rattle.session_core.proofs.EndLemmas.{silent_acks}
-use Rattle.session_core.proofs.IntakeGoesOn.{append_good}
+use Rattle.session_core.proofs.BytesStay.{append_good}
 use Rattle.session_core.proofs.MessagesInOrder.{or_false, reopened_both, course_of, dues_of, late_append, left_append, left_by, messages_move, over_by, passed_append, plain, plain_append, plain_reopens, told_append, told_by}
+use Rattle.session_core.proofs.ReadersGoOn.{Gives, fed, reading_of, waits_due, with_due}
 use Rattle.session_core.proofs.SameHoweverFed.{after_good, or_group}
 use Rattle.session_core.proofs.StepIsUnique.{Ends, received}
-use Rattle.session_core.proofs.TakenHoweverCut.{AreTaken, IsOver, over_ends, taken_both, taken_good, taken_none, taken_once, taken_over, taken_received, with_due}
+use Rattle.session_core.proofs.TakenHoweverCut.{AreTaken, IsOver, over_ends, taken_both, taken_good, taken_none, taken_once, taken_over, taken_received}
 
 -- ---- what a run comes to
 
@@ -56,7 +58,7 @@ over_with s fault acts = record s { phase = phases.Ended; fault = fault; confirm
 
 -- The session `s` is `e` after the messages, whose end is this: open, with the intake `y` and what is shared, in which `left`
 -- await their answers and `k` is shared then; or over.
-abbrev pub Leaves : (ℕ → ℕ → Bool) → Course → Bool → SessionState → Result (Unit {0}) Halt → Taking → Sharing → List Action → SessionState → List (ℕ × ℕ) → Type 0
+abbrev pub Leaves : (ℕ → ℕ → Bool) → Course → Bool → SessionState → Result (Unit {0}) Halt → Reading → Sharing → List Action → SessionState → List (ℕ × ℕ) → Type 0
 Leaves settles c before s (Ok u) y k acts e left =
     (b : Sharing)
     × (e ≡ record s { phase = phases.Open (course_of c (with_due y []) b (dues_of left)); confirmed = s.confirmed || confirms acts })
@@ -67,10 +69,10 @@ Leaves settles c before s (Err (halts.Fault fault)) y k acts e left = e ≡ over
 Leaves settles c before s (Err halts.Memory) y k acts e left = ⊥
 
 -- bytes after the intake `x` were heard, and asked for `acts`
-abbrev pub Comes : (Sharing → Sharing) → (ℕ → ℕ → Bool) → Course → Bool → Taking → Sharing → List ℕ → SessionState → List ℕ → List Action → SessionState → List (ℕ × ℕ) → Type 0
+abbrev pub Comes : (Sharing → Sharing) → (ℕ → ℕ → Bool) → Course → Bool → Reading → Sharing → List ℕ → SessionState → List ℕ → List Action → SessionState → List (ℕ × ℕ) → Type 0
 Comes asks settles c before x k over s bytes acts e left =
     (ts : List Taken)
-    × (y : Taking)
+    × (y : Reading)
     × (end : Result (Unit {0}) Halt)
     × AreTaken (fed x bytes) ts y
     × IsOver y end
@@ -92,17 +94,17 @@ reopens_confirm (s ∷ ss) = reopens_confirm ss
 -- ---- an answer
 
 -- what an answer asks for says nothing, and changes what is shared
-abbrev pub Answers : Course → Taking → List Due → Bool → SessionState → Sharing → List Action → SessionState → Type 0
+abbrev pub Answers : Course → Reading → List Due → Bool → SessionState → Sharing → List Action → SessionState → Type 0
 Answers c x due before s b acts e = (plain acts ≡ []) × (confirms acts ≡ false) × (e ≡ going s (course_of c x b due)) × (b.reopened ≡ (before || list_any is_reopen acts))
 
 none_reopened : (before : Bool) (acts : List Action) → acts ≡ [] → before ≡ (before || list_any is_reopen acts)
 none_reopened before acts none = sym (ap (λ (xs : List Action). before || list_any is_reopen xs) none ∙ or_false before)
 
-starts : (b : Bool) (s e : SessionState) (c : Course) (x : Taking) (a : Sharing) (due : List Due) (acts : List Action) → StartsPendingResync b s (course_of c x a due) acts e → Answers c x due a.reopened s (begun_if b a) acts e
+starts : (b : Bool) (s e : SessionState) (c : Course) (x : Reading) (a : Sharing) (due : List Due) (acts : List Action) → StartsPendingResync b s (course_of c x a due) acts e → Answers c x due a.reopened s (begun_if b a) acts e
 starts true s e c x a due acts (is, ends) = (ap plain is ∙ plain_reopens a.shares, ap confirms is ∙ reopens_confirm a.shares, ends, ap (λ (xs : List Action). a.reopened || list_any is_reopen xs) (sym is))
 starts false s e c x a due acts (is, ends) = (ap plain is, ap confirms is, ends, none_reopened a.reopened acts is)
 
-settles_moves : (answer : Settled) (s e : SessionState) (c : Course) (x : Taking) (a : Sharing) (due : List Due) (table : ℕ) (acts : List Action) → Settles answer s (course_of c x a due) table acts e → Answers c x due a.reopened s (settled_if (is_all answer) table a) acts e
+settles_moves : (answer : Settled) (s e : SessionState) (c : Course) (x : Reading) (a : Sharing) (due : List Due) (table : ℕ) (acts : List Action) → Settles answer s (course_of c x a due) table acts e → Answers c x due a.reopened s (settled_if (is_all answer) table a) acts e
 settles_moves settled.All s e c x a due table acts goes = starts (begins table a) s e c x (freed table a) due acts goes
 settles_moves settled.Some s e c x a due table acts (is, ends) = (ap plain is, ap confirms is, ends, none_reopened a.reopened acts is)
 settles_moves settled.Older s e c x a due table acts (is, ends) = (ap plain is, ap confirms is, ends, none_reopened a.reopened acts is)
@@ -128,12 +130,12 @@ passed_acks c = by (due_acks c.intake)
 abbrev pub stepped : SessionState → Phase → List Action → SessionState
 stepped s phase acts = record s { phase = phase; confirmed = s.confirmed || confirms acts }
 
-leaves_both : (settles : ℕ → ℕ → Bool) (c : Course) (before now : Bool) (s e : SessionState) (phase : Phase) (end : Result (Unit {0}) Halt) (y z : Taking) (k l : Sharing) (acts others : List Action) (left : List (ℕ × ℕ))
+leaves_both : (settles : ℕ → ℕ → Bool) (c : Course) (before now : Bool) (s e : SessionState) (phase : Phase) (end : Result (Unit {0}) Halt) (y z : Reading) (k l : Sharing) (acts others : List Action) (left : List (ℕ × ℕ))
     → with_due z [] ≡ with_due y [] → l ≡ k → now ≡ (before || list_any is_reopen acts) → Leaves settles c now (stepped s phase acts) end y k others e left → Leaves settles c before s end z l (acts ++ others) e left
 leaves_both settles c before now s e phase (Ok u) y z k l acts others left same is again (b, ends, answers, later) = (
   b,
   ends
-      ∙ ap (λ (x : Taking). stepped (stepped s phase acts) (phases.Open (course_of c x b (dues_of left))) others) (sym same)
+      ∙ ap (λ (x : Reading). stepped (stepped s phase acts) (phases.Open (course_of c x b (dues_of left))) others) (sym same)
       ∙ ap (λ (said : Bool). record s { phase = phases.Open (course_of c (with_due z []) b (dues_of left)); confirmed = said }) (confirmed_both s.confirmed acts others),
   answers ∙ sym is,
   later ∙ ap (λ (r : Bool). r || list_any is_reopen others) again ∙ reopened_both before acts others,
@@ -145,8 +147,8 @@ leaves_both settles c before now s e phase (Err (halts.Fault fault)) y z k l act
 leaves_both settles c before now s e phase (Err halts.Memory) y z k l acts others left same is again ends = absurd ends
 
 -- the messages of a piece that leaves the session open, and what follows
-pub on_comes : (asks : Sharing → Sharing) (settles : ℕ → ℕ → Bool) (c : Course) (before now : Bool) (x m : Taking) (k : Sharing) (over : List ℕ) (s mid e : SessionState) (bytes more : List ℕ) (ts : List Taken) (given acts others : List Action) (left : List (ℕ × ℕ)) (phase : Phase)
-    → IsBytes (x.unread ++ bytes) → AreTaken (fed x bytes) ts m → plain acts ≡ plain given
+pub on_comes : (asks : Sharing → Sharing) (settles : ℕ → ℕ → Bool) (c : Course) (before now : Bool) (x m : Reading) (k : Sharing) (over : List ℕ) (s mid e : SessionState) (bytes more : List ℕ) (ts : List Taken) (given acts others : List Action) (left : List (ℕ × ℕ)) (phase : Phase)
+    → IsBytes (x.intake.unread ++ bytes) → AreTaken (fed x bytes) ts m → plain acts ≡ plain given
     → without_late settles over (plain given) ≡ told_by asks settles c.intake.roster k ts
     → now ≡ (before || list_any is_reopen acts) → mid ≡ stepped s phase acts
     → Comes asks settles c now (with_due m []) (left_by asks settles c.intake.roster k ts) (over_by settles over (plain given)) mid more others e left
@@ -173,7 +175,7 @@ none_follow settles s e due left [] ended hears = (refl, hears.0)
 none_follow settles s e due left (step ∷ steps) ended (mid, rest, goes, awaits, later) = absurd (subst (λ (p : Phase). GoesIn p s step.0 step.1 mid) ended goes)
 
 -- the messages of a piece that ends the session
-pub over_comes : (asks : Sharing → Sharing) (settles : ℕ → ℕ → Bool) (c : Course) (before : Bool) (x m : Taking) (k : Sharing) (over : List ℕ) (s mid e : SessionState) (bytes : List ℕ) (steps : List (Event × List Action)) (ts : List Taken) (given acts : List Action) (left : List (ℕ × ℕ)) (end : Result (Unit {0}) Halt)
+pub over_comes : (asks : Sharing → Sharing) (settles : ℕ → ℕ → Bool) (c : Course) (before : Bool) (x m : Reading) (k : Sharing) (over : List ℕ) (s mid e : SessionState) (bytes : List ℕ) (steps : List (Event × List Action)) (ts : List Taken) (given acts : List Action) (left : List (ℕ × ℕ)) (end : Result (Unit {0}) Halt)
     → AreTaken (fed x bytes) ts m → IsOver m end → without_late settles over (plain acts) ≡ told_by asks settles c.intake.roster k ts ++ end_told end
     → Leaves settles c before s end m (left_by asks settles c.intake.roster k ts) acts mid left
     → (steps ≡ []) × (e ≡ mid)
@@ -188,8 +190,8 @@ over_comes asks settles c before x m k over s mid e bytes steps ts given acts le
 -- what follows a piece: the events after it, wherever they begin
 abbrev Follows : (ℕ → ℕ → Bool) → Course → List (Event × List Action) → SessionState → List (ℕ × ℕ) → Type 0
 Follows settles c steps e left =
-    (s : SessionState) (x : Taking) (a k : Sharing) (over : List ℕ) (acks : List (ℕ × ℕ)) → IsBytes (x.unread ++ heard_in steps)
-    → IntakeNext (with_due x []) (Ok None) (with_due x []) → x.roster ≡ c.intake.roster
+    (s : SessionState) (x : Reading) (a k : Sharing) (over : List ℕ) (acks : List (ℕ × ℕ)) → IsBytes (x.intake.unread ++ heard_in steps)
+    → Gives (with_due x []) (Ok None) (with_due x []) → x.intake.roster ≡ c.intake.roster
     → s.phase ≡ phases.Open (course_of c (with_due x []) a (dues_of acks)) → Fits settles over acks a k → Hears settles s acks steps e left
     → Comes requested_in settles c a.reopened (with_due x []) k over s (heard_in steps) (asked_in steps) e left
 
@@ -234,16 +236,16 @@ acks_reopen c = by (due_acks c.intake)
     by [] = refl
     by (m ∷ ms) = refl
 
-piece_open : (settles : ℕ → ℕ → Bool) (before : Bool) (c m : Course) (x : Taking) (a k : Sharing) (over : List ℕ) (s mid e : SessionState) (bytes : List ℕ) (first given acts : List Action) (ts : List Taken) (steps : List (Event × List Action)) (left : List (ℕ × ℕ))
-    → says_nothing first → a.reopened ≡ (before || list_any is_reopen first) → IsBytes ((x.unread ++ bytes) ++ heard_in steps) → x.roster ≡ c.intake.roster → Fits settles over [] a k
-    → AreReceived (course_of c (fed x bytes) a []) ts given m → IntakeNext m.intake (Ok None) m.intake
+piece_open : (settles : ℕ → ℕ → Bool) (before : Bool) (c m : Course) (x : Reading) (a k : Sharing) (over : List ℕ) (s mid e : SessionState) (bytes : List ℕ) (first given acts : List Action) (ts : List Taken) (steps : List (Event × List Action)) (left : List (ℕ × ℕ))
+    → says_nothing first → a.reopened ≡ (before || list_any is_reopen first) → IsBytes ((x.intake.unread ++ bytes) ++ heard_in steps) → x.intake.roster ≡ c.intake.roster → Fits settles over [] a k
+    → AreReceived (course_of c (fed x bytes) a []) ts given m → AwaitsMore m
     → acts ≡ (first ++ given) ++ acks_given m → mid ≡ stepped s (phases.Open (acks_sent m)) acts
     → Follows settles c steps e left → Hears settles mid (passed_on acts) steps e left
     → Comes requested_in settles c before x k over s (bytes ++ heard_in steps) (acts ++ asked_in steps) e left
 piece_open settles before c m x a k over s mid e bytes first given acts ts steps left silent opened good same fits gets waits is stands follows hears =
     let roster : List Definition = c.intake.roster in
-    let y : Taking = m.intake in
-    let here : IsBytes (x.unread ++ bytes) = front_good (x.unread ++ bytes) (heard_in steps) good in
+    let y : Reading = reading_of m in
+    let here : IsBytes (x.intake.unread ++ bytes) = front_good (x.intake.unread ++ bytes) (heard_in steps) good in
     let moved = messages_move settles roster ts c (fed x bytes) [] over [] a k given m same fits gets in
     let b : Sharing = moved.1.0 in
     let takes : AreTaken (fed x bytes) ts y = taken_received ts (course_of c (fed x bytes) a []) m given gets in
@@ -255,8 +257,8 @@ piece_open settles before c m x a k over s mid e bytes first given acts ts steps
     ∙ ap (λ (p : List (ℕ × ℕ)). phases.Open (course_of c (with_due y []) b (dues_of p))) (sym passed) in
     let fits_then : Fits settles (over_by settles over (plain given)) (passed_on acts) b (left_by requested_in settles roster k ts) =
     subst (λ (p : List (ℕ × ℕ)). Fits settles (over_by settles over (plain given)) p b (left_by requested_in settles roster k ts)) (sym passed) moved.1.2 in
-    let good_then : IsBytes (y.unread ++ heard_in steps) = append_good y.unread (heard_in steps) (taken_good ts (fed x bytes) y here takes) (after_good (x.unread ++ bytes) (heard_in steps) good) in
-    let later = follows mid y b (left_by requested_in settles roster k ts) (over_by settles over (plain given)) (passed_on acts) good_then (waits.0, waits.1, refl) moved.0 opens fits_then hears in
+    let good_then : IsBytes (y.intake.unread ++ heard_in steps) = append_good y.intake.unread (heard_in steps) (taken_good ts (fed x bytes) y here takes) (after_good (x.intake.unread ++ bytes) (heard_in steps) good) in
+    let later = follows mid y b (left_by requested_in settles roster k ts) (over_by settles over (plain given)) (passed_on acts) good_then (waits_due (reading_of m) [] waits) moved.0 opens fits_then hears in
     let again : b.reopened ≡ (before || list_any is_reopen acts) =
     moved.1.4
     ∙ ap (λ (r : Bool). r || list_any is_reopen given) opened
@@ -264,8 +266,8 @@ piece_open settles before c m x a k over s mid e bytes first given acts ts steps
     ∙ ap (λ (r : Bool). before || r) (sym (piece_reopens first given (acks_given m) acts (acks_reopen m) is)) in
     on_comes requested_in settles c before b.reopened x y k over s mid e bytes (heard_in steps) ts given acts (asked_in steps) left (phases.Open (acks_sent m)) here takes plainly moved.1.3 again stands later
 
-pub piece_comes : (settles : ℕ → ℕ → Bool) (before : Bool) (c : Course) (x : Taking) (a k : Sharing) (over : List ℕ) (s mid e : SessionState) (bytes : List ℕ) (first acts : List Action) (steps : List (Event × List Action)) (left : List (ℕ × ℕ))
-    → says_nothing first → a.reopened ≡ (before || list_any is_reopen first) → IsBytes ((x.unread ++ bytes) ++ heard_in steps) → x.roster ≡ c.intake.roster → Fits settles over [] a k
+pub piece_comes : (settles : ℕ → ℕ → Bool) (before : Bool) (c : Course) (x : Reading) (a k : Sharing) (over : List ℕ) (s mid e : SessionState) (bytes : List ℕ) (first acts : List Action) (steps : List (Event × List Action)) (left : List (ℕ × ℕ))
+    → says_nothing first → a.reopened ≡ (before || list_any is_reopen first) → IsBytes ((x.intake.unread ++ bytes) ++ heard_in steps) → x.intake.roster ≡ c.intake.roster → Fits settles over [] a k
     → ReceivesBytes s (course_of c (fed x bytes) a []) first acts mid → Follows settles c steps e left → Hears settles mid (passed_on acts) steps e left
     → Comes requested_in settles c before x k over s (bytes ++ heard_in steps) (acts ++ asked_in steps) e left
 piece_comes settles before c x a k over s mid e bytes first acts steps left silent opened good same fits (end, given, m, receives, concludes) follows hears =
@@ -281,15 +283,15 @@ piece_comes settles before c x a k over s mid e bytes first acts steps left sile
     by (Err halts.Failed) ts n gets ends (is, stands) =
         let takes = taken_received ts (course_of c (fed x bytes) a []) n given gets in
         let says = piece_told settles over first given (actions.Close ∷ []) acts (told_by requested_in settles c.intake.roster k ts) silent is refl (moves ts n gets) in
-        over_comes requested_in settles c before x n.intake k over s mid e bytes steps ts given acts left (Err halts.Failed) takes (over_ends n (Err halts.Failed) ends) says stands (none_follow settles mid e (passed_on acts) left steps (ap (λ (t : SessionState). t.phase) stands) hears)
+        over_comes requested_in settles c before x (reading_of n) k over s mid e bytes steps ts given acts left (Err halts.Failed) takes (over_ends n (Err halts.Failed) ends) says stands (none_follow settles mid e (passed_on acts) left steps (ap (λ (t : SessionState). t.phase) stands) hears)
     by (Err (halts.Fault fault)) ts n gets ends (is, stands) =
         let takes = taken_received ts (course_of c (fed x bytes) a []) n given gets in
         let says = piece_told settles over first given (actions.Part (kind_of_fault fault) ∷ []) acts (told_by requested_in settles c.intake.roster k ts) silent is refl (moves ts n gets) in
-        over_comes requested_in settles c before x n.intake k over s mid e bytes steps ts given acts left (Err (halts.Fault fault)) takes (over_ends n (Err (halts.Fault fault)) ends) says stands (none_follow settles mid e (passed_on acts) left steps (ap (λ (t : SessionState). t.phase) stands) hears)
+        over_comes requested_in settles c before x (reading_of n) k over s mid e bytes steps ts given acts left (Err (halts.Fault fault)) takes (over_ends n (Err (halts.Fault fault)) ends) says stands (none_follow settles mid e (passed_on acts) left steps (ap (λ (t : SessionState). t.phase) stands) hears)
     by (Err halts.Memory) ts n gets ends concludes = absurd concludes
 
 -- actions that confirm as others do
-pub confirmed_same : (settles : ℕ → ℕ → Bool) (c : Course) (before now : Bool) (s e : SessionState) (phase : Phase) (end : Result (Unit {0}) Halt) (y : Taking) (k : Sharing) (acts others : List Action) (left : List (ℕ × ℕ))
+pub confirmed_same : (settles : ℕ → ℕ → Bool) (c : Course) (before now : Bool) (s e : SessionState) (phase : Phase) (end : Result (Unit {0}) Halt) (y : Reading) (k : Sharing) (acts others : List Action) (left : List (ℕ × ℕ))
     → confirms acts ≡ confirms others → (now || list_any is_reopen acts) ≡ (before || list_any is_reopen others) → Leaves settles c now (record s { phase = phase }) end y k acts e left → Leaves settles c before s end y k others e left
 confirmed_same settles c before now s e phase (Ok u) y k acts others left same again (b, ends, answers, later) =
     (b, ends ∙ ap (λ (said : Bool). record s { phase = phases.Open (course_of c (with_due y []) b (dues_of left)); confirmed = s.confirmed || said }) same, answers, later ∙ again)
@@ -302,8 +304,8 @@ confirmed_same settles c before now s e phase (Err halts.Memory) y k acts others
 -- ---- events one after another
 
 -- nothing follows
-pub none_comes : (asks : Sharing → Sharing) (settles : ℕ → ℕ → Bool) (c : Course) (s e : SessionState) (x : Taking) (a k : Sharing) (over : List ℕ) (acks left : List (ℕ × ℕ))
-    → IntakeNext (with_due x []) (Ok None) (with_due x []) → s.phase ≡ phases.Open (course_of c (with_due x []) a (dues_of acks)) → Fits settles over acks a k → (e ≡ s) × (left ≡ acks)
+pub none_comes : (asks : Sharing → Sharing) (settles : ℕ → ℕ → Bool) (c : Course) (s e : SessionState) (x : Reading) (a k : Sharing) (over : List ℕ) (acks left : List (ℕ × ℕ))
+    → Gives (with_due x []) (Ok None) (with_due x []) → s.phase ≡ phases.Open (course_of c (with_due x []) a (dues_of acks)) → Fits settles over acks a k → (e ≡ s) × (left ≡ acks)
     → Comes asks settles c a.reopened (with_due x []) k over s [] [] e left
 none_comes asks settles c s e x a k over acks left waits opens fits (here, is) =
     let phase : e.phase ≡ phases.Open (course_of c (with_due x []) a (dues_of left)) = ap (λ (t : SessionState). t.phase) here ∙ opens ∙ ap (λ (p : List (ℕ × ℕ)). phases.Open (course_of c (with_due x []) a (dues_of p))) (sym is) in
@@ -317,7 +319,7 @@ none_comes asks settles c s e x a k over acks left waits opens fits (here, is) =
     as_it_is e s here = ap (λ (t : SessionState). record t { phase = e.phase }) here
 
 -- an answer that settles so, and what follows
-pub answer_next : (asks : Sharing → Sharing) (settles : ℕ → ℕ → Bool) (c : Course) (s mid e : SessionState) (x : Taking) (a b k : Sharing) (over : List ℕ) (rest left : List (ℕ × ℕ)) (bytes : List ℕ) (acts others : List Action)
+pub answer_next : (asks : Sharing → Sharing) (settles : ℕ → ℕ → Bool) (c : Course) (s mid e : SessionState) (x : Reading) (a b k : Sharing) (over : List ℕ) (rest left : List (ℕ × ℕ)) (bytes : List ℕ) (acts others : List Action)
     → Answers c (with_due x []) (dues_of rest) a.reopened s b acts mid → Comes asks settles c b.reopened (with_due x []) k over mid bytes others e left
     → Comes asks settles c a.reopened (with_due x []) k over s bytes (acts ++ others) e left
 answer_next asks settles c s mid e x a b k over rest left bytes acts others (nothing, none, stands, reopened) (ts, y, end, takes, ends, tells, leaves) =
@@ -330,7 +332,7 @@ answer_next asks settles c s mid e x a b k over rest left bytes acts others (not
     (ts, y, end, takes, ends, ap (without_late settles over) says ∙ tells, confirmed_same settles c a.reopened b.reopened s e phase end y l others (acts ++ others) left (sym said) again there)
 
 -- what an answer makes of an open session
-pub answer_settles : (settles : ℕ → ℕ → Bool) (c : Course) (s mid : SessionState) (x : Taking) (a : Sharing) (acks rest : List (ℕ × ℕ)) (table number : ℕ) (answer : Settled) (acts : List Action)
+pub answer_settles : (settles : ℕ → ℕ → Bool) (c : Course) (s mid : SessionState) (x : Reading) (a : Sharing) (acks rest : List (ℕ × ℕ)) (table number : ℕ) (answer : Settled) (acts : List Action)
     → s.phase ≡ phases.Open (course_of c x a (dues_of acks)) → Goes s (events.Settled table answer) acts mid
     → acks ≡ (table, number) ∷ rest → is_all answer ≡ (is_out table (shared s.phase) && settles table number)
     → Answers c x (dues_of rest) a.reopened s (answered_in settles (table, number) a) acts mid
@@ -345,8 +347,8 @@ answer_settles settles c s mid x a acks rest table number answer acts opens goes
     (settles_moves answer s mid c x a (dues_of rest) table acts (subst (λ (y : Course). Settles answer s y table acts mid) is_d there.2))
 
 -- an answer, and what follows
-answer_comes : (settles : ℕ → ℕ → Bool) (c : Course) (s mid e : SessionState) (x : Taking) (a k : Sharing) (over : List ℕ) (acks rest left : List (ℕ × ℕ)) (table : ℕ) (answer : Settled) (acts : List Action) (steps : List (Event × List Action))
-    → IsBytes (x.unread ++ heard_in steps) → IntakeNext (with_due x []) (Ok None) (with_due x []) → x.roster ≡ c.intake.roster
+answer_comes : (settles : ℕ → ℕ → Bool) (c : Course) (s mid e : SessionState) (x : Reading) (a k : Sharing) (over : List ℕ) (acks rest left : List (ℕ × ℕ)) (table : ℕ) (answer : Settled) (acts : List Action) (steps : List (Event × List Action))
+    → IsBytes (x.intake.unread ++ heard_in steps) → Gives (with_due x []) (Ok None) (with_due x []) → x.intake.roster ≡ c.intake.roster
     → s.phase ≡ phases.Open (course_of c (with_due x []) a (dues_of acks)) → Fits settles over acks a k
     → Goes s (events.Settled table answer) acts mid → Awaits settles s (events.Settled table answer) acts acks rest
     → Follows settles c steps e left → Hears settles mid rest steps e left
@@ -363,8 +365,8 @@ pub none_due : (acks : List (ℕ × ℕ)) → dues_of acks ≡ [] → acks ≡ [
 none_due [] none = refl
 none_due (ack ∷ acks) none = cc
 
-bytes_come : (settles : ℕ → ℕ → Bool) (c : Course) (s mid e : SessionState) (x : Taking) (a k : Sharing) (over : List ℕ) (acks rest left : List (ℕ × ℕ)) (bytes : List ℕ) (acts : List Action) (steps : List (Event × List Action))
-    → IsBytes ((x.unread ++ bytes) ++ heard_in steps) → x.roster ≡ c.intake.roster → s.phase ≡ phases.Open (course_of c x a (dues_of acks)) → Fits settles over acks a k
+bytes_come : (settles : ℕ → ℕ → Bool) (c : Course) (s mid e : SessionState) (x : Reading) (a k : Sharing) (over : List ℕ) (acks rest left : List (ℕ × ℕ)) (bytes : List ℕ) (acts : List Action) (steps : List (Event × List Action))
+    → IsBytes ((x.intake.unread ++ bytes) ++ heard_in steps) → x.intake.roster ≡ c.intake.roster → s.phase ≡ phases.Open (course_of c x a (dues_of acks)) → Fits settles over acks a k
     → Goes s (events.Bytes bytes) acts mid → rest ≡ acks ++ passed_on acts → Follows settles c steps e left → Hears settles mid rest steps e left
     → Comes requested_in settles c a.reopened x k over s (bytes ++ heard_in steps) (acts ++ asked_in steps) e left
 bytes_come settles c s mid e x a k over acks rest left bytes acts steps good same opens fits goes is_rest follows hears =
@@ -378,7 +380,7 @@ bytes_come settles c s mid e x a k over acks rest left bytes acts steps good sam
 pub follows_all : (settles : ℕ → ℕ → Bool) (c : Course) (e : SessionState) (left : List (ℕ × ℕ)) (steps : List (Event × List Action)) → Follows settles c steps e left
 follows_all settles c e left [] s x a k over acks good waits same opens fits hears = none_comes requested_in settles c s e x a k over acks left waits opens fits hears
 follows_all settles c e left ((events.Bytes bytes, acts) ∷ steps) s x a k over acks good waits same opens fits (mid, rest, goes, awaits, hears) =
-    let grouped : x.unread ++ (bytes ++ heard_in steps) ≡ (x.unread ++ bytes) ++ heard_in steps = sym (append_assoc x.unread bytes (heard_in steps)) in
+    let grouped : x.intake.unread ++ (bytes ++ heard_in steps) ≡ (x.intake.unread ++ bytes) ++ heard_in steps = sym (append_assoc x.intake.unread bytes (heard_in steps)) in
     bytes_come settles c s mid e (with_due x []) a k over acks rest left bytes acts steps (subst IsBytes grouped good) same opens fits goes awaits (follows_all settles c e left steps) hears
 follows_all settles c e left ((events.Settled table answer, acts) ∷ steps) s x a k over acks good waits same opens fits (mid, rest, goes, awaits, hears) =
     answer_comes settles c s mid e x a k over acks rest left table answer acts steps good waits same opens fits goes awaits (follows_all settles c e left steps) hears
@@ -400,12 +402,12 @@ sharing_of c = record { stays = c.stays; shares = c.shares; waits = c.waits; ane
 
 open_comes : (settles : ℕ → ℕ → Bool) (c : Course) (s e : SessionState) (step : Event × List Action) (steps : List (Event × List Action)) (left : List (ℕ × ℕ))
     → s.phase ≡ phases.Open c → IsBytes (c.intake.unread ++ heard_in (step ∷ steps)) → Hears settles s [] (step ∷ steps) e left
-    → Comes requested_in settles c false c.intake (sharing_of c) [] s (heard_in (step ∷ steps)) (asked_in (step ∷ steps)) e left
+    → Comes requested_in settles c false (reading_of c) (sharing_of c) [] s (heard_in (step ∷ steps)) (asked_in (step ∷ steps)) e left
 open_comes settles c s e (events.Bytes bytes, acts) steps left opens good (mid, rest, goes, awaits, hears) =
     let there : GoesOpen s c (events.Bytes bytes) acts mid = subst (λ (p : Phase). GoesIn p s (events.Bytes bytes) acts mid) opens goes in
-    let opens_so : s.phase ≡ phases.Open (course_of c c.intake (sharing_of c) []) = opens ∙ ap (λ (ds : List Due). phases.Open (record c { due = ds })) there.0 in
+    let opens_so : s.phase ≡ phases.Open (course_of c (reading_of c) (sharing_of c) []) = opens ∙ ap (λ (ds : List Due). phases.Open (record c { due = ds })) there.0 in
     let grouped : c.intake.unread ++ (bytes ++ heard_in steps) ≡ (c.intake.unread ++ bytes) ++ heard_in steps = sym (append_assoc c.intake.unread bytes (heard_in steps)) in
-    bytes_come settles c s mid e c.intake (sharing_of c) (sharing_of c) [] [] rest left bytes acts steps (subst IsBytes grouped good) refl opens_so (fits_first settles (sharing_of c)) goes awaits (follows_all settles c e left steps) hears
+    bytes_come settles c s mid e (reading_of c) (sharing_of c) (sharing_of c) [] [] rest left bytes acts steps (subst IsBytes grouped good) refl opens_so (fits_first settles (sharing_of c)) goes awaits (follows_all settles c e left steps) hears
 open_comes settles c s e (events.Settled table answer, acts) steps left opens good (mid, rest, goes, (number, is_first, is_answer), hears) = cc
 open_comes settles c s e (events.Turn, acts) steps left opens good (mid, rest, goes, awaits, hears) = absurd awaits
 open_comes settles c s e (events.Opened, acts) steps left opens good (mid, rest, goes, awaits, hears) = absurd awaits
@@ -441,8 +443,8 @@ confirms_plain settles over (actions.Part kind ∷ acts) = confirms_plain settle
 confirms_plain settles over (actions.Close ∷ acts) = confirms_plain settles over acts
 
 -- with the bytes after the end of the session
-pub out_comes : (asks : Sharing → Sharing) (settles : ℕ → ℕ → Bool) (c : Course) (before : Bool) (x : Taking) (k : Sharing) (over : List ℕ) (s : SessionState) (bytes more : List ℕ) (acts : List Action) (e : SessionState) (left : List (ℕ × ℕ))
-    → IsBytes (x.unread ++ bytes) → IsFedOut more e → Comes asks settles c before x k over s bytes acts e left → Comes asks settles c before x k over s (bytes ++ more) acts e left
+pub out_comes : (asks : Sharing → Sharing) (settles : ℕ → ℕ → Bool) (c : Course) (before : Bool) (x : Reading) (k : Sharing) (over : List ℕ) (s : SessionState) (bytes more : List ℕ) (acts : List Action) (e : SessionState) (left : List (ℕ × ℕ))
+    → IsBytes (x.intake.unread ++ bytes) → IsFedOut more e → Comes asks settles c before x k over s bytes acts e left → Comes asks settles c before x k over s (bytes ++ more) acts e left
 out_comes asks settles c before x k over s bytes more acts e left good (inl none) comes =
     subst (λ (b : List ℕ). Comes asks settles c before x k over s b acts e left) (sym (ap (λ (m : List ℕ). bytes ++ m) none ∙ append-nil bytes)) comes
 out_comes asks settles c before x k over s bytes more acts e left good (inr ended) (ts, y, Ok u, takes, ends, says, (b, stands, answers, later)) =
@@ -463,7 +465,7 @@ AreAlike settles c s acts given e end left over =
     × ((left ≡ []) ⊎ (e.phase ≡ phases.Ended) → (over ≡ []) ⊎ (end.phase ≡ phases.Ended) → e ≡ end)
     × (left ≡ [] → over ≡ [] → is_open e.phase ≡ true → list_any is_reopen acts ≡ list_any is_reopen given)
 
-ends_alike : (settles : ℕ → ℕ → Bool) (c : Course) (before : Bool) (s : SessionState) (how : Result (Unit {0}) Halt) (y : Taking) (k : Sharing) (acts given : List Action) (e end : SessionState) (left over : List (ℕ × ℕ))
+ends_alike : (settles : ℕ → ℕ → Bool) (c : Course) (before : Bool) (s : SessionState) (how : Result (Unit {0}) Halt) (y : Reading) (k : Sharing) (acts given : List Action) (e end : SessionState) (left over : List (ℕ × ℕ))
     → confirms acts ≡ confirms given → Leaves settles c before s how y k acts e left → Leaves settles c before s how y k given end over
     → (left ≡ []) ⊎ (e.phase ≡ phases.Ended) → (over ≡ []) ⊎ (end.phase ≡ phases.Ended) → e ≡ end
 ends_alike settles c before s (Ok u) y k acts given e end left over same (b, stands, answers, later) (d, stands', answers', later') (inl none) (inl none') =
@@ -488,7 +490,7 @@ ends_alike settles c before s (Err (halts.Fault fault)) y k acts given e end lef
     stands ∙ ap (λ (said : Bool). record s { phase = phases.Ended; fault = Some fault; confirmed = s.confirmed || said }) same ∙ sym stands'
 ends_alike settles c before s (Err halts.Memory) y k acts given e end left over same stands stands' wanted wanted' = absurd stands
 
-reopens_alike : (settles : ℕ → ℕ → Bool) (c : Course) (s : SessionState) (how : Result (Unit {0}) Halt) (y : Taking) (k : Sharing) (acts given : List Action) (e end : SessionState) (left over : List (ℕ × ℕ))
+reopens_alike : (settles : ℕ → ℕ → Bool) (c : Course) (s : SessionState) (how : Result (Unit {0}) Halt) (y : Reading) (k : Sharing) (acts given : List Action) (e end : SessionState) (left over : List (ℕ × ℕ))
     → Leaves settles c false s how y k acts e left → Leaves settles c false s how y k given end over → left ≡ [] → over ≡ [] → is_open e.phase ≡ true → list_any is_reopen acts ≡ list_any is_reopen given
 reopens_alike settles c s (Ok u) y k acts given e end left over (b, stands, answers, later) (d, stands', answers', later') none none' opens =
     let is_b : b ≡ k = sym (ap (λ (p : List (ℕ × ℕ)). all_answered settles p b) none) ∙ answers in
@@ -500,7 +502,7 @@ reopens_alike settles c s (Err (halts.Fault fault)) y k acts given e end left ov
     absurd (false≢true (ap (λ (t : SessionState). is_open t.phase) (sym stands) ∙ opens))
 reopens_alike settles c s (Err halts.Memory) y k acts given e end left over stands stands' none none' opens = absurd stands
 
-pub come_alike : (asks : Sharing → Sharing) (settles : ℕ → ℕ → Bool) (c : Course) (x : Taking) (k : Sharing) (s : SessionState) (bytes : List ℕ) (acts given : List Action) (e end : SessionState) (left over : List (ℕ × ℕ))
+pub come_alike : (asks : Sharing → Sharing) (settles : ℕ → ℕ → Bool) (c : Course) (x : Reading) (k : Sharing) (s : SessionState) (bytes : List ℕ) (acts given : List Action) (e end : SessionState) (left over : List (ℕ × ℕ))
     → Comes asks settles c false x k [] s bytes acts e left → Comes asks settles c false x k [] s bytes given end over → AreAlike settles c s acts given e end left over
 come_alike asks settles c x k s bytes acts given e end left over (ts, y, how, takes, ends, says, leaves) (us, z, why, takes', ends', says', leaves') =
     let roster : List Definition = c.intake.roster in
@@ -513,7 +515,7 @@ come_alike asks settles c x k s bytes acts given e end left over (ts, y, how, ta
     let said : confirms acts ≡ confirms given = sym (confirms_plain settles [] acts) ∙ ap confirms tells ∙ confirms_plain settles [] given in
     let there : Leaves settles c false s how y (left_by asks settles roster k ts) given end over =
     subst (λ (ms : List Taken). Leaves settles c false s how y (left_by asks settles roster k ms) given end over) (sym same.0)
-    (subst (λ (t : Taking). Leaves settles c false s how t (left_by asks settles roster k us) given end over) (sym same.1)
+    (subst (λ (t : Reading). Leaves settles c false s how t (left_by asks settles roster k us) given end over) (sym same.1)
     (subst (λ (r : Result (Unit {0}) Halt). Leaves settles c false s r z (left_by asks settles roster k us) given end over) (sym same.2) leaves')) in
     (tells, ends_alike settles c false s how y (left_by asks settles roster k ts) acts given e end left over said leaves there, reopens_alike settles c s how y (left_by asks settles roster k ts) acts given e end left over leaves there)
 
@@ -527,7 +529,7 @@ heard_however_cut settles s e end c step other steps others more rest left over 
     let bytes' : List ℕ = heard_in (other ∷ others) in
     let good_one : IsBytes (c.intake.unread ++ bytes) = append_good c.intake.unread bytes unread (front_good bytes more good) in
     let good_other : IsBytes (c.intake.unread ++ bytes') = append_good c.intake.unread bytes' unread (front_good bytes' rest (subst IsBytes cut good)) in
-    let first = out_comes requested_in settles c false c.intake (sharing_of c) [] s bytes more (asked_in (step ∷ steps)) e left good_one out (open_comes settles c s e step steps left opens good_one one) in
-    let second = out_comes requested_in settles c false c.intake (sharing_of c) [] s bytes' rest (asked_in (other ∷ others)) end over good_other out' (open_comes settles c s end other others over opens good_other again) in
-    come_alike requested_in settles c c.intake (sharing_of c) s (bytes ++ more) (asked_in (step ∷ steps)) (asked_in (other ∷ others)) e end left over first
-    (subst (λ (b : List ℕ). Comes requested_in settles c false c.intake (sharing_of c) [] s b (asked_in (other ∷ others)) end over) (sym cut) second)
+    let first = out_comes requested_in settles c false (reading_of c) (sharing_of c) [] s bytes more (asked_in (step ∷ steps)) e left good_one out (open_comes settles c s e step steps left opens good_one one) in
+    let second = out_comes requested_in settles c false (reading_of c) (sharing_of c) [] s bytes' rest (asked_in (other ∷ others)) end over good_other out' (open_comes settles c s end other others over opens good_other again) in
+    come_alike requested_in settles c (reading_of c) (sharing_of c) s (bytes ++ more) (asked_in (step ∷ steps)) (asked_in (other ∷ others)) e end left over first
+    (subst (λ (b : List ℕ). Comes requested_in settles c false (reading_of c) (sharing_of c) [] s b (asked_in (other ∷ others)) end over) (sym cut) second)

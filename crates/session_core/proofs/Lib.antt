@@ -1,3 +1,4 @@
+mod ReadersGoOn
 mod ReceivingLemmas
 mod EndLemmas
 mod ShareLemmas
@@ -8,7 +9,7 @@ mod AskedLaws
 mod ConfirmedLaws
 mod FaultLaws
 mod StepIsUnique
-mod IntakeGoesOn
+mod CountedOnce
 mod ReceivingGoesOn
 mod BytesStay
 mod SomeStep
@@ -40,3 +41,4 @@ mod StandingInOrder
 mod GreetedHoweverCut
 mod GreetingInOrder
 mod HelloDecides
+mod LessonDue

@@ -5,13 +5,11 @@ use Rattle.std.specs.List.{list_any}
 use Rattle.std.proofs.lemmas.List.{append-nil, map-append}
 use Rattle.std.proofs.lemmas.List.Elements.{filter-append, filter_map-append}
 use Rattle.table_types.specs.Tables.{Definition}
-use Rattle.table_types.specs.declared.update.Update.{Update}
 use Rattle.peers_msg.specs.declared.control.Control.{Control}
 use Rattle.peers_msg.specs.declared.control.Control.TheVariants as controls
-use Rattle.peers_msg.specs.declared.message.Message.{Message}
 use Rattle.learner.specs.declared.taken.Taken.{Taken}
 use Rattle.learner.specs.declared.taken.Taken.TheVariants as taken
-use Rattle.learner.specs.Intake.{Taking, Takes, rows_of}
+use Rattle.tolerant_intake.specs.Reading.{Reading}
 use Rattle.session_core.specs.declared.action.Action.{Action}
 use Rattle.session_core.specs.declared.action.Action.TheVariants as actions
 use Rattle.session_core.specs.declared.due.Due.{Due}
@@ -26,14 +24,15 @@ use Rattle.session_core.specs.Standing.{is_reopen, without_reopens}
 use Rattle.session_core.specs.Cutting.{answers_message, without_acks}
 use Rattle.session_core.specs.Hearing.{passed_on, without_late}
 use Rattle.std.proofs.lemmas.List.Folds.{list_any-append}
+use Rattle.session_core.proofs.ReadersGoOn.{gives_roster, reading_of}
 use Rattle.session_core.proofs.SameHoweverFed.{or_group}
 use Rattle.session_core.proofs.AnswersInOrder.{Fits, Sharing, answered_in, fits_late, fits_less, fits_passed, fits_requested, over_after, requested_if, requested_in, settled_if}
 
 -- ---- a course, as it shares tables
 
--- the course `c` with another intake, with this sharing, and with these answers due
-abbrev pub course_of : Course → Taking → Sharing → List Due → Course
-course_of c x a due = record { stays = a.stays; intake = x; up_to_date = c.up_to_date; shares = a.shares; asked = c.asked; teaching = cond a.anew true c.teaching; waits = a.waits; due = due }
+-- the course `c` with another reader, with this sharing, and with these answers due
+abbrev pub course_of : Course → Reading → Sharing → List Due → Course
+course_of c x a due = record { stays = a.stays; intake = x.intake; tolerance = x.tolerance; up_to_date = c.up_to_date; shares = a.shares; asked = c.asked; teaching = cond a.anew true c.teaching; waits = a.waits; due = due }
 
 abbrev pub due_of : ℕ × ℕ → Due
 due_of ack = dues.Ack ack.0
@@ -156,7 +155,7 @@ left_append asks settles roster k (t ∷ ts) us = left_append asks settles roste
 
 -- a course that asked for `acts` became `d`, and fits `k` then; `told` is what of the actions counts, and `before` whether a
 -- table was reopened before
-abbrev Moves : (ℕ → ℕ → Bool) → Course → Taking → Bool → List Due → List ℕ → List (ℕ × ℕ) → List Action → Course → Sharing → List Action → Type 0
+abbrev Moves : (ℕ → ℕ → Bool) → Course → Reading → Bool → List Due → List ℕ → List (ℕ × ℕ) → List Action → Course → Sharing → List Action → Type 0
 Moves settles c x before due over acks acts d k told =
     (b : Sharing)
     × (d ≡ course_of c x b (due ++ dues_of (passed_on acts)))
@@ -172,7 +171,7 @@ pub reopened_both : (b : Bool) (xs ys : List Action) → ((b || list_any is_reop
 reopened_both b xs ys = or_group b (list_any is_reopen xs) (list_any is_reopen ys) ∙ ap (λ (c : Bool). b || c) (sym (list_any-append is_reopen xs ys))
 
 -- nothing is passed on
-moves_still : (settles : ℕ → ℕ → Bool) (c : Course) (x : Taking) (before : Bool) (due : List Due) (over : List ℕ) (acks : List (ℕ × ℕ)) (acts : List Action) (b k : Sharing) (told : List Action)
+moves_still : (settles : ℕ → ℕ → Bool) (c : Course) (x : Reading) (before : Bool) (due : List Due) (over : List ℕ) (acks : List (ℕ × ℕ)) (acts : List Action) (b k : Sharing) (told : List Action)
     → passed_on acts ≡ [] → over_by settles over (plain acts) ≡ over → without_late settles over (plain acts) ≡ told
     → b.reopened ≡ (before || list_any is_reopen acts) → Fits settles over acks b k → Moves settles c x before due over acks acts (course_of c x b due) k told
 moves_still settles c x before due over acks acts b k told none same is again fits =
@@ -185,7 +184,7 @@ moves_still settles c x before due over acks acts b k told none same is again fi
       again,
     )
 
-requested_moves : (settles : ℕ → ℕ → Bool) (out : Bool) (c : Course) (x : Taking) (due : List Due) (over : List ℕ) (acks : List (ℕ × ℕ)) (a k : Sharing)
+requested_moves : (settles : ℕ → ℕ → Bool) (out : Bool) (c : Course) (x : Reading) (due : List Due) (over : List ℕ) (acks : List (ℕ × ℕ)) (a k : Sharing)
     → Fits settles over acks (requested_if out a) k
     → Moves settles c x a.reopened due over acks (requested out (course_of c x a due)).0 (requested out (course_of c x a due)).1 k []
 requested_moves settles true c x due over acks a k fits = moves_still settles c x a.reopened due over acks [] (requested_if true a) k [] refl refl refl (sym (or_false a.reopened)) fits
@@ -193,7 +192,7 @@ requested_moves settles false c x due over acks a k fits =
     let acts : List Action = reopens a.shares in
     moves_still settles c x a.reopened due over acks acts (requested_if false a) k [] (passed_reopens a.shares) (ap (over_by settles over) (plain_reopens a.shares)) (ap (without_late settles over) (plain_reopens a.shares)) refl fits
 
-said_moves : (settles : ℕ → ℕ → Bool) (control : Control) (c : Course) (x : Taking) (due : List Due) (over : List ℕ) (acks : List (ℕ × ℕ)) (a k : Sharing) → Fits settles over acks a k
+said_moves : (settles : ℕ → ℕ → Bool) (control : Control) (c : Course) (x : Reading) (due : List Due) (over : List ℕ) (acks : List (ℕ × ℕ)) (a k : Sharing) → Fits settles over acks a k
     → Moves settles c x a.reopened due over acks (message_received (course_of c x a due) (taken.Said control)).0 (message_received (course_of c x a due) (taken.Said control)).1 (control_left requested_in k control) (control_told control)
 said_moves settles controls.ResyncRequest c x due over acks a k fits = requested_moves settles (is_held a.stays a.shares) c x due over acks a (requested_in k) (fits_requested settles over acks a k fits)
 said_moves settles controls.ResyncFinished c x due over acks a k fits = moves_still settles c x a.reopened due over acks (sends_control controls.ResyncConfirmed ∷ []) a k (sends_control controls.ResyncConfirmed ∷ []) refl refl refl (sym (or_false a.reopened)) fits
@@ -202,7 +201,7 @@ said_moves settles controls.ResyncConfirmed c x due over acks a k fits = moves_s
 said_moves settles controls.Heartbeat c x due over acks a k fits = moves_still settles c x a.reopened due over acks [] a k [] refl refl refl (sym (or_false a.reopened)) fits
 
 -- an acknowledgement of a table with a batch out
-passed_moves : (settles : ℕ → ℕ → Bool) (late : Bool) (c : Course) (x : Taking) (due : List Due) (over : List ℕ) (acks : List (ℕ × ℕ)) (a k : Sharing) (table number : ℕ)
+passed_moves : (settles : ℕ → ℕ → Bool) (late : Bool) (c : Course) (x : Reading) (due : List Due) (over : List ℕ) (acks : List (ℕ × ℕ)) (a k : Sharing) (table number : ℕ)
     → list_any (λ id. id == table) over ≡ late → is_out table a.shares ≡ true → Fits settles over acks a k
     → Moves settles c x a.reopened due over acks (actions.Ack table number ∷ []) (course_of c x a (due ++ (dues.Ack table ∷ []))) (answered_in settles (table, number) k) (cond (is_out table k.shares) (actions.Ack table number ∷ []) [])
 passed_moves settles true c x due over acks a k table number is_late out fits =
@@ -224,7 +223,7 @@ passed_moves settles false c x due over acks a k table number is_late out fits =
       sym (or_false a.reopened),
     )
 
-acknowledged_moves : (settles : ℕ → ℕ → Bool) (out : Bool) (c : Course) (x : Taking) (due : List Due) (over : List ℕ) (acks : List (ℕ × ℕ)) (a k : Sharing) (table number : ℕ)
+acknowledged_moves : (settles : ℕ → ℕ → Bool) (out : Bool) (c : Course) (x : Reading) (due : List Due) (over : List ℕ) (acks : List (ℕ × ℕ)) (a k : Sharing) (table number : ℕ)
     → is_out table a.shares ≡ out → Fits settles over acks a k
     → Moves settles c x a.reopened due over acks (acknowledged out (course_of c x a due) table number).0 (acknowledged out (course_of c x a due) table number).1 (answered_in settles (table, number) k) (cond (is_out table k.shares) (actions.Ack table number ∷ []) [])
 acknowledged_moves settles true c x due over acks a k table number out fits = passed_moves settles (list_any (λ id. id == table) over) c x due over acks a k table number refl out fits
@@ -232,33 +231,30 @@ acknowledged_moves settles false c x due over acks a k table number out fits =
     let none : is_out table k.shares ≡ false = fits_less settles over acks a k table fits out in
     rw none (moves_still settles c x a.reopened due over acks [] a k [] refl refl refl (sym (or_false a.reopened)) fits)
 
-ack_moves : (settles : ℕ → ℕ → Bool) (ack : Option (ℕ × ℕ)) (c : Course) (x : Taking) (due : List Due) (over : List ℕ) (acks : List (ℕ × ℕ)) (a k : Sharing) → Fits settles over acks a k
+ack_moves : (settles : ℕ → ℕ → Bool) (ack : Option (ℕ × ℕ)) (c : Course) (x : Reading) (due : List Due) (over : List ℕ) (acks : List (ℕ × ℕ)) (a k : Sharing) → Fits settles over acks a k
     → Moves settles c x a.reopened due over acks (ack_received (course_of c x a due) ack).0 (ack_received (course_of c x a due) ack).1 (ack_left settles k ack) (ack_told k ack)
 ack_moves settles (Some (table, number)) c x due over acks a k fits = acknowledged_moves settles (is_out table a.shares) c x due over acks a k table number refl fits
 ack_moves settles None c x due over acks a k fits = moves_still settles c x a.reopened due over acks [] a k [] refl refl refl (sym (or_false a.reopened)) fits
 
-message_moves : (settles : ℕ → ℕ → Bool) (t : Taken) (c : Course) (x : Taking) (due : List Due) (over : List ℕ) (acks : List (ℕ × ℕ)) (a k : Sharing) → Fits settles over acks a k
-    → Moves settles c x a.reopened due over acks (message_received (course_of c x a due) t).0 (message_received (course_of c x a due) t).1 (message_left requested_in settles x.roster k t) (message_told x.roster k t)
+message_moves : (settles : ℕ → ℕ → Bool) (t : Taken) (c : Course) (x : Reading) (due : List Due) (over : List ℕ) (acks : List (ℕ × ℕ)) (a k : Sharing) → Fits settles over acks a k
+    → Moves settles c x a.reopened due over acks (message_received (course_of c x a due) t).0 (message_received (course_of c x a due) t).1 (message_left requested_in settles x.intake.roster k t) (message_told x.intake.roster k t)
 message_moves settles (taken.Row u) c x due over acks a k fits = moves_still settles c x a.reopened due over acks (actions.Learn u ∷ []) a k (actions.Learn u ∷ []) refl refl refl (sym (or_false a.reopened)) fits
 message_moves settles taken.Passed c x due over acks a k fits = moves_still settles c x a.reopened due over acks [] a k [] refl refl refl (sym (or_false a.reopened)) fits
 message_moves settles (taken.Said control) c x due over acks a k fits = said_moves settles control c x due over acks a k fits
-message_moves settles (taken.Acked table number) c x due over acks a k fits = ack_moves settles (ack_of x.roster (taken.Acked table number)) c x due over acks a k fits
+message_moves settles (taken.Acked table number) c x due over acks a k fits = ack_moves settles (ack_of x.intake.roster (taken.Acked table number)) c x due over acks a k fits
 message_moves settles (taken.Failed kind) c x due over acks a k fits = moves_still settles c x a.reopened due over acks [] a k [] refl refl refl (sym (or_false a.reopened)) fits
 
 -- ---- the messages of a piece
 
-pub taken_roster : (t e : Taking) (m : Message) (own : List Update) → Takes t m own e → e.roster ≡ t.roster
-taken_roster t e m own (is_open, rest, at, us, step, keeps, is) = ap (λ (x : Taking). x.roster) is
-
-pub messages_move : (settles : ℕ → ℕ → Bool) (roster : List Definition) (ts : List Taken) (c : Course) (x : Taking) (due : List Due) (over : List ℕ) (acks : List (ℕ × ℕ)) (a k : Sharing) (acts : List Action) (e : Course)
-    → x.roster ≡ roster → Fits settles over acks a k → AreReceived (course_of c x a due) ts acts e
-    → (e.intake.roster ≡ roster) × Moves settles c e.intake a.reopened due over acks acts e (left_by requested_in settles roster k ts) (told_by requested_in settles roster k ts)
+pub messages_move : (settles : ℕ → ℕ → Bool) (roster : List Definition) (ts : List Taken) (c : Course) (x : Reading) (due : List Due) (over : List ℕ) (acks : List (ℕ × ℕ)) (a k : Sharing) (acts : List Action) (e : Course)
+    → x.intake.roster ≡ roster → Fits settles over acks a k → AreReceived (course_of c x a due) ts acts e
+    → (e.intake.roster ≡ roster) × Moves settles c (reading_of e) a.reopened due over acks acts e (left_by requested_in settles roster k ts) (told_by requested_in settles roster k ts)
 messages_move settles roster [] c x due over acks a k acts e same fits (none, here) =
     let still = moves_still settles c x a.reopened due over acks [] a k [] refl refl refl (sym (or_false a.reopened)) fits in
-    (ap (λ (d : Course). d.intake.roster) here ∙ same, subst (λ (xs : List Action). Moves settles c e.intake a.reopened due over acks xs e k []) (sym none) (subst (λ (d : Course). Moves settles c d.intake a.reopened due over acks [] d k []) (sym here) still))
-messages_move settles roster (t ∷ ts) c x due over acks a k acts e same fits (mid, rest, (whole, (m, takes, answers), then), all, later) =
-    let y : Taking = mid.intake in
-    let same_then : y.roster ≡ roster = taken_roster x y m (rows_of t) takes ∙ same in
+    (ap (λ (d : Course). d.intake.roster) here ∙ same, subst (λ (xs : List Action). Moves settles c (reading_of e) a.reopened due over acks xs e k []) (sym none) (subst (λ (d : Course). Moves settles c (reading_of d) a.reopened due over acks [] d k []) (sym here) still))
+messages_move settles roster (t ∷ ts) c x due over acks a k acts e same fits (mid, rest, (whole, gives, then), all, later) =
+    let y : Reading = reading_of mid in
+    let same_then : y.intake.roster ≡ roster = gives_roster x y t gives ∙ same in
     let moves = message_moves settles t c y due over acks a k fits in
     let one : List Action × Course = message_received (course_of c y a due) t in
     let is_one : message_received mid t ≡ one = ap (λ (d : Course). message_received d t) then in
@@ -293,7 +289,7 @@ messages_move settles roster (t ∷ ts) c x due over acks a k acts e same fits (
       others.0,
       (
         last.0,
-        last.1 ∙ ap (λ (ds : List Due). course_of c e.intake last.0 ds) due_all,
+        last.1 ∙ ap (λ (ds : List Due). course_of c (reading_of e) last.0 ds) due_all,
         subst (λ (o : List ℕ). Fits settles o (acks ++ passed_on acts) last.0 (left_by requested_in settles roster k (t ∷ ts))) over_all
             (subst (λ (p : List (ℕ × ℕ)). Fits settles (over_by settles over_then (plain rest)) p last.0 (left_by requested_in settles roster k (t ∷ ts))) acks_all last.2),
         told_all,

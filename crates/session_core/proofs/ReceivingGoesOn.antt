@@ -5,8 +5,8 @@ use Rattle.peers_msg.specs.declared.control.Control.{Control}
 use Rattle.peers_msg.specs.declared.control.Control.TheVariants as controls
 use Rattle.learner.specs.declared.taken.Taken.{Taken}
 use Rattle.learner.specs.declared.taken.Taken.TheVariants as taken
-use Rattle.learner.specs.Intake.{Taking, Gives, rows_of}
-use Rattle.learner.proofs.SameHoweverCut.{left_good}
+use Rattle.tolerant_intake.specs.Reading.{Reading, Reads}
+use Rattle.tolerant_intake.proofs.ReadingGoesOn.{GoesOn, always_reads}
 use Rattle.session_core.specs.declared.action.Action.{Action}
 use Rattle.session_core.specs.declared.action.Action.TheVariants as actions
 use Rattle.session_core.specs.declared.halt.Halt.{Halt}
@@ -15,43 +15,43 @@ use Rattle.session_core.specs.Phases as phases
 use Rattle.session_core.specs.Acks.{ack_of}
 use Rattle.session_core.specs.Courses.{Course, AreReceived, ack_received, acknowledged, acks_given, acks_sent, message_received, is_failure, requested, said}
 use Rattle.session_core.specs.Sessions.{SessionState, ReceivesBytes, confirmed_by, ended, going, kind_of_fault}
-use Rattle.session_core.proofs.IntakeGoesOn.{Does, does}
+use Rattle.session_core.proofs.ReadersGoOn.{Gives, gives_good, reading_of}
 use Rattle.session_core.proofs.StepIsUnique.{Ends}
 
--- ---- what receiving leaves in the intake
+-- ---- what receiving leaves in the reader
 
-requested_intake : (waits : Bool) (c : Course) → (requested waits c).1.intake ≡ c.intake
-requested_intake true c = refl
-requested_intake false c = refl
+requested_reading : (waits : Bool) (c : Course) → reading_of (requested waits c).1 ≡ reading_of c
+requested_reading true c = refl
+requested_reading false c = refl
 
-said_intake : (c : Course) (control : Control) → (said c control).1.intake ≡ c.intake
-said_intake c controls.ResyncRequest = requested_intake _ c
-said_intake c controls.ResyncFinished = refl
-said_intake c controls.ResyncPartial = refl
-said_intake c controls.ResyncConfirmed = refl
-said_intake c controls.Heartbeat = refl
+said_reading : (c : Course) (control : Control) → reading_of (said c control).1 ≡ reading_of c
+said_reading c controls.ResyncRequest = requested_reading _ c
+said_reading c controls.ResyncFinished = refl
+said_reading c controls.ResyncPartial = refl
+said_reading c controls.ResyncConfirmed = refl
+said_reading c controls.Heartbeat = refl
 
-acknowledged_intake : (out : Bool) (c : Course) (table number : ℕ) → (acknowledged out c table number).1.intake ≡ c.intake
-acknowledged_intake true c table number = refl
-acknowledged_intake false c table number = refl
+acknowledged_reading : (out : Bool) (c : Course) (table number : ℕ) → reading_of (acknowledged out c table number).1 ≡ reading_of c
+acknowledged_reading true c table number = refl
+acknowledged_reading false c table number = refl
 
-ack_intake : (c : Course) (ack : Option (ℕ × ℕ)) → (ack_received c ack).1.intake ≡ c.intake
-ack_intake c (Some (table, number)) = acknowledged_intake _ c table number
-ack_intake c None = refl
+ack_reading : (c : Course) (ack : Option (ℕ × ℕ)) → reading_of (ack_received c ack).1 ≡ reading_of c
+ack_reading c (Some (table, number)) = acknowledged_reading _ c table number
+ack_reading c None = refl
 
-pub received_intake : (c : Course) (t : Taken) → (message_received c t).1.intake ≡ c.intake
-received_intake c (taken.Row u) = refl
-received_intake c taken.Passed = refl
-received_intake c (taken.Said control) = said_intake c control
-received_intake c (taken.Acked table number) = ack_intake c (ack_of c.intake.roster (taken.Acked table number))
-received_intake c (taken.Failed kind) = refl
+pub received_reading : (c : Course) (t : Taken) → reading_of (message_received c t).1 ≡ reading_of c
+received_reading c (taken.Row u) = refl
+received_reading c taken.Passed = refl
+received_reading c (taken.Said control) = said_reading c control
+received_reading c (taken.Acked table number) = ack_reading c (ack_of c.intake.roster (taken.Acked table number))
+received_reading c (taken.Failed kind) = refl
 
 -- the unread values are all bytes
 pub received_good : (c e : Course) (ts : List Taken) (acts : List Action) → IsBytes c.intake.unread → AreReceived c ts acts e → IsBytes e.intake.unread
 received_good c e [] acts good (none, here) = subst (λ (x : Course). IsBytes x.intake.unread) (sym here) good
-received_good c e (t ∷ ts) acts good (mid, rest, (whole, (m, takes, answers), then), all, later) =
-    let left : IsBytes mid.intake.unread = left_good c.intake mid.intake m (rows_of t) good takes in
-    received_good (message_received mid t).1 e ts rest (subst (λ (x : Taking). IsBytes x.unread) (sym (received_intake mid t)) left) later
+received_good c e (t ∷ ts) acts good (mid, rest, (whole, gives, then), all, later) =
+    let left : IsBytes mid.intake.unread = gives_good (reading_of c) (reading_of mid) t good gives in
+    received_good (message_received mid t).1 e ts rest (subst (λ (x : Reading). IsBytes x.intake.unread) (sym (received_reading mid t)) left) later
 
 -- ---- up to an end
 
@@ -62,28 +62,32 @@ AreAllReceived c = (ts : List Taken) × (acts : List Action) × (m : Course) × 
 abbrev IsLater : ℕ → Type 0
 IsLater n = (d : Course) → length d.intake.unread < n → IsBytes d.intake.unread → AreAllReceived d
 
-received_first : (c : Course) (n : ℕ) (t : Taken) (e : Taking) → IsLater n → is_failure t ≡ false → Gives c.intake (Ok t) e → length e.unread < n → IsBytes e.unread → AreAllReceived c
+received_first : (c : Course) (n : ℕ) (t : Taken) (e : Reading) → IsLater n → is_failure t ≡ false → Gives (reading_of c) (Ok (Some t)) e → length e.intake.unread < n → IsBytes e.intake.unread → AreAllReceived c
 received_first c n t e later whole gives few good =
-    let mid : Course = record c { intake = e } in
-    let same = sym (received_intake mid t) in
-    let rest = later (message_received mid t).1 (subst (λ (x : Taking). length x.unread < n) same few) (subst (λ (x : Taking). IsBytes x.unread) same good) in
+    let mid : Course = record c { intake = e.intake; tolerance = e.tolerance } in
+    let same = sym (received_reading mid t) in
+    let rest = later (message_received mid t).1 (subst (λ (x : Reading). length x.intake.unread < n) same few) (subst (λ (x : Reading). IsBytes x.intake.unread) same good) in
     (t ∷ rest.0, (message_received mid t).0 ++ rest.1, rest.2, rest.3, (mid, rest.1, (whole, gives, refl), refl, rest.4), rest.5)
 
-received_by : (c : Course) (n : ℕ) (t : Taken) (e : Taking) → IsLater n → Gives c.intake (Ok t) e → length e.unread < n → IsBytes e.unread → AreAllReceived c
+received_by : (c : Course) (n : ℕ) (t : Taken) (e : Reading) → IsLater n → Gives (reading_of c) (Ok (Some t)) e → length e.intake.unread < n → IsBytes e.intake.unread → AreAllReceived c
 received_by c n (taken.Row u) e later gives few good = received_first c n (taken.Row u) e later refl gives few good
 received_by c n taken.Passed e later gives few good = received_first c n taken.Passed e later refl gives few good
 received_by c n (taken.Said control) e later gives few good = received_first c n (taken.Said control) e later refl gives few good
 received_by c n (taken.Acked table number) e later gives few good = received_first c n (taken.Acked table number) e later refl gives few good
-received_by c n (taken.Failed kind) e later gives few good = ([], [], c, Err halts.Failed, (refl, refl), (kind, e, gives))
+received_by c n (taken.Failed kind) e later gives few good = ([], [], c, Err halts.Failed, (refl, refl), (kind, e.intake, e.tolerance, gives))
 
-received_from : (c : Course) (n : ℕ) → IsLater n → length c.intake.unread < suc n → Does c.intake → AreAllReceived c
+-- what the reader of the course does
+abbrev Does : Course → Type 0
+Does c = GoesOn (Reads c.tolerance c.intake) c.intake c.tolerance
+
+received_from : (c : Course) (n : ℕ) → IsLater n → length c.intake.unread < suc n → Does c → AreAllReceived c
 received_from c n later few (inl waits) = ([], [], c, Ok tt, (refl, refl), waits)
-received_from c n later few (inr (inl (t, e, gives, fewer, good))) = received_by c n t e later gives (omega (arith, few, fewer)) good
-received_from c n later few (inr (inr (fault, e, wanted, stops))) = ([], [], c, Err (halts.Fault fault), (refl, refl), (wanted, e, stops))
+received_from c n later few (inr (inl (t, e, after, gives, fewer, good))) = received_by c n t (record { intake = e; tolerance = after }) later gives (omega (arith, few, fewer)) good
+received_from c n later few (inr (inr (fault, e, after, wanted, stops))) = ([], [], c, Err (halts.Fault fault), (refl, refl), (wanted, e, after, stops))
 
 received_out : (n : ℕ) (c : Course) → length c.intake.unread < n → IsBytes c.intake.unread → AreAllReceived c
 received_out zero c few good = absurd (omega (arith, few))
-received_out (suc n) c few good = received_from c n (received_out n) few (does c.intake good)
+received_out (suc n) c few good = received_from c n (received_out n) few (always_reads c.tolerance c.intake good)
 
 -- ---- what follows
 

@@ -1,23 +1,18 @@
 -- Bytes that come in several events ask for the same as all of them in one event.
-use Rattle.std.proofs.Common.{◌≡◌, ◌≢◌, ◌⊎◌, ℕ, suc, inl, inr, Bool, true, false, ◌||◌, List, [], ◌∷◌, ◌++◌, Option, Some, None, Result, Ok, Err, refl, sym, ap, subst, ◌∙◌, append_assoc}
+use Rattle.std.proofs.Common.{◌≡◌, ◌⊎◌, ℕ, suc, inl, inr, Bool, true, false, ◌||◌, List, [], ◌∷◌, ◌++◌, Option, Some, None, Result, Ok, Err, refl, sym, ap, subst, ◌∙◌, append_assoc}
 use Rattle.std.proofs.lemmas.List.{append-nil}
 use Rattle.std.proofs.lemmas.List.Elements.{filter-append}
 use Rattle.std.proofs.lemmas.List.Folds.{list_any-append}
-use Rattle.table_types.specs.declared.update.Update.{Update}
 use Rattle.table_types.specs.Tables.{Definition}
 use Rattle.peers_msg.specs.Integers.{IsBytes}
 use Rattle.peers_msg.specs.declared.control.Control.{Control}
 use Rattle.peers_msg.specs.declared.control.Control.TheVariants as controls
-use Rattle.peers_msg.specs.declared.message.Message.{Message}
 use Rattle.peers_msg.specs.Decoding.{together}
 use Rattle.peers_msg.proofs.CuttingIndependence.{front_good}
 use Rattle.learner.specs.declared.fault.Fault.{Fault}
-use Rattle.learner.specs.declared.fault.Fault.TheVariants as faults
 use Rattle.learner.specs.declared.taken.Taken.{Taken}
 use Rattle.learner.specs.declared.taken.Taken.TheVariants as taken
-use Rattle.learner.specs.Intake.{Taking, Takes, Stops, due_after, fed, rows_of, shut}
-use Rattle.learner.proofs.SameHoweverCut.{takes_on}
-use Rattle.learner.proofs.SameFaultHoweverCut.{stops_on}
+use Rattle.learner.specs.Intake.{Taking, fed}
 use Rattle.session_core.specs.declared.action.Action.{Action}
 use Rattle.session_core.specs.declared.action.Action.TheVariants as actions
 use Rattle.session_core.specs.declared.event.Event.TheVariants as events
@@ -32,10 +27,10 @@ use Rattle.session_core.specs.Shares.{is_out}
 use Rattle.session_core.specs.Sessions.{SessionState, Goes, GoesIn, GoesOpen, ReceivesBytes, Concludes, confirmed_by, ended, going, kind_of_fault}
 use Rattle.session_core.specs.Runs.{HoldsBytes}
 use Rattle.session_core.specs.Cutting.{AreFed, IsFedOut, answers_message, without_acks}
-use Rattle.session_core.proofs.BytesStay.{step_holds}
+use Rattle.session_core.proofs.BytesStay.{append_good, step_holds}
 use Rattle.session_core.proofs.EndLemmas.{silent_acks}
-use Rattle.session_core.proofs.IntakeGoesOn.{append_good}
 use Rattle.session_core.proofs.ReceivingGoesOn.{received_good}
+use Rattle.session_core.proofs.ReadersGoOn.{gives_due, gives_more, reading_of, stops_more, waits_due}
 use Rattle.session_core.proofs.StepIsUnique.{Ends, received, goes_once}
 
 -- ---- another intake in the same course
@@ -75,10 +70,10 @@ message_lift f c (taken.Failed kind) same = refl
 
 received_on : (more : List ℕ) (ts : List Taken) (c e : Course) (acts : List Action) → IsBytes c.intake.unread → AreReceived c ts acts e → AreReceived (course_fed c more) ts acts (course_fed e more)
 received_on more [] c e acts good (none, here) = (none, ap (λ (x : Course). course_fed x more) here)
-received_on more (t ∷ ts) c e acts good (mid, rest, (whole, (m, takes, answers), then), all, later) =
-    let one : Receives (course_fed c more) t (course_fed mid more) = (whole, (m, takes_on c.intake mid.intake m (rows_of t) more good takes, answers), ap (λ (x : Course). course_fed x more) then) in
+received_on more (t ∷ ts) c e acts good (mid, rest, (whole, gives, then), all, later) =
+    let one : Receives (course_fed c more) t (course_fed mid more) = (whole, gives_more (reading_of c) (reading_of mid) t more good gives, ap (λ (x : Course). course_fed x more) then) in
     let next = message_lift (λ (x : Taking). fed x more) mid t refl in
-    let left : IsBytes (message_received mid t).1.intake.unread = received_good c (message_received mid t).1 (t ∷ []) ((message_received mid t).0 ++ []) good (mid, [], (whole, (m, takes, answers), then), refl, (refl, refl)) in
+    let left : IsBytes (message_received mid t).1.intake.unread = received_good c (message_received mid t).1 (t ∷ []) ((message_received mid t).0 ++ []) good (mid, [], (whole, gives, then), refl, (refl, refl)) in
     let others = received_on more ts (message_received mid t).1 e rest left later in
     (course_fed mid more, rest, one, all ∙ ap (λ (x : List Action × Course). x.0 ++ rest) (sym next), subst (λ (x : List Action × Course). AreReceived x.1 ts rest (course_fed e more)) (sym next) others)
 
@@ -92,31 +87,24 @@ fed_on c e bytes more ts acts good receives =
 abbrev redue : Course → List ℕ → Course
 redue c due = lift (λ (x : Taking). record x { due = due }) c
 
-pub takes_redue : (t e : Taking) (m : Message) (own : List Update) (due : List ℕ) → Takes t m own e → Takes (record t { due = due }) m own (record e { due = due_after t.state m due })
-takes_redue t e m own due (is_open, rest, at, us, step, keeps, is) = (is_open, rest, at, us, step, keeps, ap (λ (x : Taking). record x { due = due_after t.state m due }) is)
-
 received_redue : (ts : List Taken) (c e : Course) (acts : List Action) (due : List ℕ) → AreReceived c ts acts e → (after : List ℕ) × AreReceived (redue c due) ts acts (redue e after)
 received_redue [] c e acts due (none, here) = (due, (none, ap (λ (x : Course). redue x due) here))
-received_redue (t ∷ ts) c e acts due (mid, rest, (whole, (m, takes, answers), then), all, later) =
-    let after : List ℕ = due_after c.intake.state m due in
-    let one : Receives (redue c due) t (redue mid after) = (whole, (m, takes_redue c.intake mid.intake m (rows_of t) due takes, answers), ap (λ (x : Course). redue x after) then) in
+received_redue (t ∷ ts) c e acts due (mid, rest, (whole, gives, then), all, later) =
+    let again = gives_due (reading_of c) (reading_of mid) due (Ok (Some t)) gives in
+    let after : List ℕ = again.0 in
+    let one : Receives (redue c due) t (redue mid after) = (whole, again.1, ap (λ (x : Course). redue x after) then) in
     let next = message_lift (λ (x : Taking). record x { due = after }) mid t refl in
     let others = received_redue ts (message_received mid t).1 e rest after later in
     (others.0, (redue mid after, rest, one, all ∙ ap (λ (x : List Action × Course). x.0 ++ rest) (sym next), subst (λ (x : List Action × Course). AreReceived x.1 ts rest (redue e others.0)) (sym next) others.1))
 
-pub stops_redue : (t e : Taking) (due : List ℕ) (fault : Fault) → Stops t fault e → (x : Taking) × Stops (record t { due = due }) fault x
-stops_redue t e due faults.Memory (is_open, takable, is) = (record t { due = due }, (is_open, takable, refl))
-stops_redue t e due faults.Closed (closed, is) = (record t { due = due }, (closed, refl))
-stops_redue t e due (faults.Breach breach) (is_open, at, is) = (shut (record t { due = due }), (is_open, at, refl))
-stops_redue t e due faults.NoNumber (is_open, m, rest, at, refused, is) = (shut (record t { due = due }), (is_open, m, rest, at, refused, refl))
-stops_redue t e due faults.EmptySlot (is_open, m, rest, at, refused, is) = (shut (record t { due = due }), (is_open, m, rest, at, refused, refl))
-
 ends_redue : (c : Course) (due : List ℕ) (end : Result (Unit {0}) Halt) → Ends c end → Ends (redue c due) end
-ends_redue c due (Ok u) (is_open, none, is) = (is_open, none, refl)
-ends_redue c due (Err halts.Failed) (kind, e, (m, takes, answers)) = (kind, record e { due = due_after c.intake.state m due }, (m, takes_redue c.intake e m (rows_of (taken.Failed kind)) due takes, answers))
-ends_redue c due (Err (halts.Fault fault)) (wanted, e, stops) =
-    let there = stops_redue c.intake e due fault stops in
-    (wanted, there.0, there.1)
+ends_redue c due (Ok u) waits = waits_due (reading_of c) due waits
+ends_redue c due (Err halts.Failed) (kind, e, after, gives) =
+    let there = gives_due (reading_of c) (record { intake = e; tolerance = after }) due (Ok (Some (taken.Failed kind))) gives in
+    (kind, record e { due = there.0 }, after, there.1)
+ends_redue c due (Err (halts.Fault fault)) (wanted, e, after, stops) =
+    let there = gives_due (reading_of c) (record { intake = e; tolerance = after }) due (Err fault) stops in
+    (wanted, record e { due = there.0 }, after, there.1)
 ends_redue c due (Err halts.Memory) ends = absurd ends
 
 -- ---- messages after messages
@@ -302,27 +290,20 @@ fed_whole (b ∷ pieces) s e c a acts is holds good (one, rest, mid, all, goes, 
 
 -- ---- bytes after the end of a session
 
-pub stops_more : (t e : Taking) (more : List ℕ) (fault : Fault) → IsBytes t.unread → Stops t fault e → fault ≢ faults.Memory → (x : Taking) × Stops (fed t more) fault x
-stops_more t e more faults.Memory good stops wanted = absurd (wanted refl)
-stops_more t e more faults.Closed good (closed, is) wanted = (fed t more, (closed, refl))
-stops_more t e more faults.NoNumber good stops wanted = (e, stops_on t e more faults.NoNumber good stops.0 stops wanted)
-stops_more t e more faults.EmptySlot good stops wanted = (e, stops_on t e more faults.EmptySlot good stops.0 stops wanted)
-stops_more t e more (faults.Breach breach) good stops wanted = (e, stops_on t e more (faults.Breach breach) good stops.0 stops wanted)
-
 -- what ends a session ends it with more bytes after it
 over_on : (s e : SessionState) (c : Course) (bytes more : List ℕ) (acts : List Action) → IsBytes (c.intake.unread ++ bytes) → ReceivesBytes s (course_fed c bytes) [] acts e → e.phase ≡ phases.Ended → ReceivesBytes s (course_fed c (bytes ++ more)) [] acts e
 over_on s e c bytes more acts good (Ok u, given, m, receives, (is, ends)) over =
     let never : phases.Open (acks_sent m) ≡ phases.Ended = sym (ap (λ (x : SessionState). x.phase) ends) ∙ over in
     absurd cc
-over_on s e c bytes more acts good (Err halts.Failed, given, m, (ts, mid, receives, (kind, x, (k, takes, answers))), concludes) over =
+over_on s e c bytes more acts good (Err halts.Failed, given, m, (ts, mid, receives, (kind, x, after, gives)), concludes) over =
     let left : IsBytes mid.intake.unread = received_good (course_fed c bytes) mid ts given good receives in
     let on : AreReceived (course_fed c (bytes ++ more)) ts given (course_fed mid more) = fed_on c mid bytes more ts given good receives in
-    (Err halts.Failed, given, m, (ts, course_fed mid more, on, (kind, fed x more, (k, takes_on mid.intake x k (rows_of (taken.Failed kind)) more left takes, answers))), concludes)
-over_on s e c bytes more acts good (Err (halts.Fault fault), given, m, (ts, mid, receives, (wanted, x, stops)), concludes) over =
+    (Err halts.Failed, given, m, (ts, course_fed mid more, on, (kind, fed x more, after, gives_more (reading_of mid) (record { intake = x; tolerance = after }) (taken.Failed kind) more left gives)), concludes)
+over_on s e c bytes more acts good (Err (halts.Fault fault), given, m, (ts, mid, receives, (wanted, x, after, stops)), concludes) over =
     let left : IsBytes mid.intake.unread = received_good (course_fed c bytes) mid ts given good receives in
     let on : AreReceived (course_fed c (bytes ++ more)) ts given (course_fed mid more) = fed_on c mid bytes more ts given good receives in
-    let there = stops_more mid.intake x more fault left stops wanted in
-    (Err (halts.Fault fault), given, m, (ts, course_fed mid more, on, (wanted, there.0, there.1)), concludes)
+    let there = stops_more (reading_of mid) (record { intake = x; tolerance = after }) fault more left wanted stops in
+    (Err (halts.Fault fault), given, m, (ts, course_fed mid more, on, (wanted, there.0.intake, there.0.tolerance, there.1)), concludes)
 over_on s e c bytes more acts good (Err halts.Memory, given, m, receives, concludes) over = absurd concludes
 
 out_on : (s e : SessionState) (c : Course) (bytes more : List ℕ) (acts : List Action) → s.phase ≡ phases.Open c → IsBytes (c.intake.unread ++ bytes) → IsFedOut more e → Goes s (events.Bytes bytes) acts e → Goes s (events.Bytes (bytes ++ more)) acts e

@@ -31,9 +31,8 @@ use Rattle.session_core.specs.Courses.{Course, Answered, course_fed, finished, i
 use Rattle.session_core.specs.Shares.{out_set}
 use Rattle.session_core.specs.Runs.{BringsBytes, HoldsBytes, IsBegun, Runs}
 use Rattle.session_core.specs.Sessions.{SessionState, Accepts, Connects, FinishesResync, Goes, GoesHello, GoesIn, GoesNew, GoesOpen, Greets, HasNothing, IsWelcomed, Settles, StartsPendingResync, Turns, ended, going, in_phase, is_asked, is_asked_hello, is_asked_new, is_asked_open, first_word, falling_back, falls_back, opening, speaking}
-use Rattle.session_core.proofs.IntakeGoesOn.{append_good}
 use Rattle.session_core.proofs.ReceivingGoesOn.{received_some}
-use Rattle.session_core.proofs.BytesStay.{fed_good, run_holds}
+use Rattle.session_core.proofs.BytesStay.{append_good, fed_good, run_holds}
 
 -- ---- New
 

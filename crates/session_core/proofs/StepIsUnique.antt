@@ -14,8 +14,7 @@ use Rattle.learner.specs.declared.fault.Fault.{Fault}
 use Rattle.learner.specs.declared.fault.Fault.TheVariants as faults
 use Rattle.learner.specs.declared.taken.Taken.{Taken}
 use Rattle.learner.specs.declared.taken.Taken.TheVariants as taken
-use Rattle.learner.specs.Intake.{Taking, IntakeNext}
-use Rattle.learner.proofs.OneOutcome.{intake_next_once}
+use Rattle.tolerant_intake.specs.Reading.{Reading}
 use Rattle.session_core.specs.declared.action.Action.{Action}
 use Rattle.session_core.specs.declared.action.Action.TheVariants as actions
 use Rattle.session_core.specs.Actions.{sends_control, status_text}
@@ -28,8 +27,9 @@ use Rattle.session_core.specs.declared.phase.Greeter.{Greeter}
 use Rattle.session_core.specs.declared.phase.Greeter.TheVariants as greeters
 use Rattle.session_core.specs.Phases.{Phase}
 use Rattle.session_core.specs.Phases as phases
-use Rattle.session_core.specs.Courses.{Course, AreReceived, Answered, Receives, ReceivesAll, IsHalted, acks_sent, course_fed, message_received, is_failure, table_to_ask}
+use Rattle.session_core.specs.Courses.{Course, AreReceived, Answered, Receives, ReceivesAll, IsHalted, AwaitsMore, acks_sent, course_fed, message_received, is_failure, table_to_ask}
 use Rattle.session_core.specs.Sessions.{SessionState, Accepts, Concludes, Connects, FinishesResync, Goes, GoesHello, GoesIn, GoesNew, GoesOpen, Greets, HasNothing, IsCopied, IsWelcomed, ReceivesBytes, Settles, StartsPendingResync, Turns, confirmed_by, ended, going, first_word, opening, speaking}
+use Rattle.session_core.proofs.ReadersGoOn.{Gives, gives_once, reading_of}
 
 -- two results that equal the same result are equal
 both : {given acts others : List Action} → {then e end : SessionState} → (acts ≡ given) × (e ≡ then) → (others ≡ given) × (end ≡ then) → (acts ≡ others) × (e ≡ end)
@@ -41,20 +41,20 @@ same_end s e end by acts others same p q = (same, p ∙ ap by same ∙ sym q)
 
 -- ---- messages one after another
 
--- what ends the received messages, by the answer of the intake; none if another message is received
+-- what ends the received messages, by the answer of the reader; none if another message is received
 abbrev ending : Result (Option Taken) Fault → Option (Result (Unit {0}) Halt)
 ending (Ok None) = Some (Ok tt)
 ending (Ok (Some (taken.Failed kind))) = Some (Err halts.Failed)
 ending (Ok (Some t)) = None
 ending (Err fault) = Some (Err (halts.Fault fault))
 
--- the intake gives this answer, and doesn't run out of memory
-abbrev Shows : Course → Option (Result (Unit {0}) Halt) → Taking → Result (Option Taken) Fault → Type 0
-Shows c end e answer = IntakeNext c.intake answer e × (answer ≢ Err faults.Memory) × (ending answer ≡ end)
+-- the reader gives this answer, and doesn't run out of memory
+abbrev Shows : Course → Option (Result (Unit {0}) Halt) → Reading → Result (Option Taken) Fault → Type 0
+Shows c end e answer = Gives (reading_of c) answer e × (answer ≢ Err faults.Memory) × (ending answer ≡ end)
 
 -- no complete message is left, or one halts the session, though memory suffices
 abbrev pub Ends : Course → Result (Unit {0}) Halt → Type 0
-Ends c (Ok _) = IntakeNext c.intake (Ok None) c.intake
+Ends c (Ok _) = AwaitsMore c
 Ends c (Err halts.Memory) = ⊥
 Ends c (Err halt) = IsHalted c halt
 
@@ -64,10 +64,10 @@ some_answer answer same = cc
 fault_of : (fault other : Fault) → ◌≡◌ {A = Result (Option Taken) Fault} (Err fault) (Err other) → fault ≡ other
 fault_of fault other same = cc
 
-shown_end : (c : Course) (end : Result (Unit {0}) Halt) → Ends c end → (answer : Result (Option Taken) Fault) × (e : Taking) × Shows c (Some end) e answer
-shown_end c (Ok _) ends = (Ok None, c.intake, (ends, some_answer None, refl))
-shown_end c (Err halts.Failed) (kind, e, gives) = (Ok (Some (taken.Failed kind)), e, (gives, some_answer (Some (taken.Failed kind)), refl))
-shown_end c (Err (halts.Fault fault)) (wanted, e, stops) = (Err fault, e, (stops, (λ same. wanted (fault_of fault faults.Memory same)), refl))
+shown_end : (c : Course) (end : Result (Unit {0}) Halt) → Ends c end → (answer : Result (Option Taken) Fault) × (e : Reading) × Shows c (Some end) e answer
+shown_end c (Ok _) ends = (Ok None, reading_of c, (ends, some_answer None, refl))
+shown_end c (Err halts.Failed) (kind, e, after, gives) = (Ok (Some (taken.Failed kind)), record { intake = e; tolerance = after }, (gives, some_answer (Some (taken.Failed kind)), refl))
+shown_end c (Err (halts.Fault fault)) (wanted, e, after, stops) = (Err fault, record { intake = e; tolerance = after }, (stops, (λ same. wanted (fault_of fault faults.Memory same)), refl))
 shown_end c (Err halts.Memory) ends = absurd ends
 
 goes_on : (t : Taken) → is_failure t ≡ false → ending (Ok (Some t)) ≡ None
@@ -77,41 +77,41 @@ goes_on (taken.Said control) is = refl
 goes_on (taken.Acked table number) is = refl
 goes_on (taken.Failed kind) is = cc
 
-shown_received : (c mid : Course) (t : Taken) → Receives c t mid → Shows c None mid.intake (Ok (Some t))
+shown_received : (c mid : Course) (t : Taken) → Receives c t mid → Shows c None (reading_of mid) (Ok (Some t))
 shown_received c mid t (is, gives, then) = (gives, some_answer (Some t), goes_on t is)
 
 end_of : (a b : Result (Unit {0}) Halt) → ◌≡◌ {A = Option (Result (Unit {0}) Halt)} (Some a) (Some b) → a ≡ b
 end_of a b same = cc
 
-ends_alike : (c : Course) (a b : Result (Unit {0}) Halt) → (answer : Result (Option Taken) Fault) × (e : Taking) × Shows c (Some a) e answer
-    → (answer : Result (Option Taken) Fault) × (e : Taking) × Shows c (Some b) e answer → a ≡ b
+ends_alike : (c : Course) (a b : Result (Unit {0}) Halt) → (answer : Result (Option Taken) Fault) × (e : Reading) × Shows c (Some a) e answer
+    → (answer : Result (Option Taken) Fault) × (e : Reading) × Shows c (Some b) e answer → a ≡ b
 ends_alike c a b (answer, e, (next, wanted, is)) (answer', e', (next', wanted', is')) =
-    end_of a b (sym is ∙ ap ending (intake_next_once c.intake e e' answer answer' next next' wanted wanted').0 ∙ is')
+    end_of a b (sym is ∙ ap ending (gives_once (reading_of c) e e' answer answer' next next' wanted wanted').0 ∙ is')
 
 pub one_end : (c : Course) (a b : Result (Unit {0}) Halt) → Ends c a → Ends c b → a ≡ b
 one_end c a b ends again = ends_alike c a b (shown_end c a ends) (shown_end c b again)
 
-no_end : (c : Course) (end : Result (Unit {0}) Halt) (next : Taking) (t : Taken) → (answer : Result (Option Taken) Fault) × (e : Taking) × Shows c (Some end) e answer → Shows c None next (Ok (Some t)) → ⊥
+no_end : (c : Course) (end : Result (Unit {0}) Halt) (next : Reading) (t : Taken) → (answer : Result (Option Taken) Fault) × (e : Reading) × Shows c (Some end) e answer → Shows c None next (Ok (Some t)) → ⊥
 no_end c end next' t (answer, e, (next, wanted, is)) (gives, wanted', is') =
-    let bad : Some end ≡ None = sym is ∙ ap ending (intake_next_once c.intake e next' answer (Ok (Some t)) next gives wanted wanted').0 ∙ is' in
+    let bad : Some end ≡ None = sym is ∙ ap ending (gives_once (reading_of c) e next' answer (Ok (Some t)) next gives wanted wanted').0 ∙ is' in
     cc
 
 pub not_both : (c mid : Course) (t : Taken) (end : Result (Unit {0}) Halt) → Ends c end → Receives c t mid → ⊥
-not_both c mid t end ends receives = no_end c end mid.intake t (shown_end c end ends) (shown_received c mid t receives)
+not_both c mid t end ends receives = no_end c end (reading_of mid) t (shown_end c end ends) (shown_received c mid t receives)
 
 taken_of : (t u : Taken) → ◌≡◌ {A = Result (Option Taken) Fault} (Ok (Some t)) (Ok (Some u)) → t ≡ u
 taken_of t u same = cc
 
 pub one_received : (c mid next : Course) (t u : Taken) → Receives c t mid → Receives c u next → (t ≡ u) × (mid ≡ next)
 one_received c mid next t u receives again =
-    let same = intake_next_once c.intake mid.intake next.intake (Ok (Some t)) (Ok (Some u)) receives.1 again.1 (some_answer (Some t)) (some_answer (Some u)) in
-    (taken_of t u same.0, receives.2 ∙ ap (λ (x : Taking). record c { intake = x }) same.1 ∙ sym again.2)
+    let same = gives_once (reading_of c) (reading_of mid) (reading_of next) (Ok (Some t)) (Ok (Some u)) receives.1 again.1 (some_answer (Some t)) (some_answer (Some u)) in
+    (taken_of t u same.0, receives.2 ∙ ap (λ (x : Reading). record c { intake = x.intake; tolerance = x.tolerance }) same.1 ∙ sym again.2)
 
 -- the messages of a course are received up to one end, and ask for the same actions
-all_received_once : (c m n : Course) (ts us : List Taken) (acts others : List Action) (a b : Result (Unit {0}) Halt)
-    → AreReceived c ts acts m → AreReceived c us others n → Ends m a → Ends n b → (acts ≡ others) × (m ≡ n) × (a ≡ b)
+pub all_received_once : (c m n : Course) (ts us : List Taken) (acts others : List Action) (a b : Result (Unit {0}) Halt)
+    → AreReceived c ts acts m → AreReceived c us others n → Ends m a → Ends n b → (acts ≡ others) × (m ≡ n) × (a ≡ b) × (ts ≡ us)
 all_received_once c m n [] [] acts others a b one again ends ends' =
-    (one.0 ∙ sym again.0, one.1 ∙ sym again.1, one_end c a b (subst (λ (x : Course). Ends x a) one.1 ends) (subst (λ (x : Course). Ends x b) again.1 ends'))
+    (one.0 ∙ sym again.0, one.1 ∙ sym again.1, one_end c a b (subst (λ (x : Course). Ends x a) one.1 ends) (subst (λ (x : Course). Ends x b) again.1 ends'), refl)
 all_received_once c m n [] (u ∷ us) acts others a b one (mid, rest, receives, is, then) ends ends' =
     absurd (not_both c mid u a (subst (λ (x : Course). Ends x a) one.1 ends) receives)
 all_received_once c m n (t ∷ ts) [] acts others a b (mid, rest, receives, is, then) again ends ends' =
@@ -122,7 +122,8 @@ all_received_once c m n (t ∷ ts) (u ∷ us) acts others a b (mid, rest, receiv
     let later : AreReceived (message_received mid t).1 us rest' n = subst (λ (x : List Action × Course). AreReceived x.1 us rest' n) moved then' in
     let all = all_received_once (message_received mid t).1 m n ts us rest rest' a b then later ends ends' in
     let asked : acts ≡ others = is ∙ ap (λ (x : List Action). (message_received mid t).0 ++ x) all.0 ∙ ap (λ (x : List Action × Course). x.0 ++ rest') (sym moved) ∙ sym is' in
-    (asked, all.1, all.2)
+    let read : t ∷ ts ≡ u ∷ us = ap (λ (x : Taken). x ∷ ts) same.0 ∙ ap (λ (xs : List Taken). u ∷ xs) all.3 in
+    (asked, all.1, all.2, read)
 
 -- bytes were received: which messages, up to which end, and what followed
 abbrev pub Received : SessionState → Course → List Action → Result (Unit {0}) Halt → List Action → List Action → SessionState → Type 0

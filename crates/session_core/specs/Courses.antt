@@ -11,7 +11,9 @@ use Rattle.learner.specs.declared.fault.Fault.{Fault}
 use Rattle.learner.specs.declared.fault.Fault.TheVariants as faults
 use Rattle.learner.specs.declared.taken.Taken.{Taken}
 use Rattle.learner.specs.declared.taken.Taken.TheVariants as taken
-use Rattle.learner.specs.Intake.{Taking, Gives, IntakeNext, Stops, begun, fed, due_acks}
+use Rattle.learner.specs.Intake.{Taking, begun, fed, due_acks}
+use Rattle.tolerant_intake.specs.Tolerance.{Tolerance, nothing_passed}
+use Rattle.tolerant_intake.specs.Reading.{Reads}
 use Rattle.session_core.specs.declared.share.Share.{Share}
 use Rattle.session_core.specs.declared.action.Action.{Action}
 use Rattle.session_core.specs.declared.action.Action.TheVariants as actions
@@ -25,12 +27,14 @@ use Rattle.session_core.specs.Acks.{ack_of}
 use Rattle.session_core.specs.Shares.{any_out, is_out, shares_of, unquieted, next_table}
 use Rattle.session_core.specs.Actions.{reopens, sends_control, sends_acks}
 
--- Whether the session stays for as long as its connection does; what was received from the remote peer; whether this node is up to
--- date itself; the tables, in roster order; the table that was last asked for a batch; whether the remote peer is being taught every
--- row; whether its resync request is deferred; and the actions not answered yet, in the order in which their answers are due.
+-- Whether the session stays for as long as its connection does; what was received from the remote peer; what its reader remembers
+-- beside it, if it is tolerant; whether this node is up to date itself; the tables, in roster order; the table that was last asked for
+-- a batch; whether the remote peer is being taught every row; whether its resync request is deferred; and the actions not answered
+-- yet, in the order in which their answers are due.
 pub record Course : Type 0 where
   pub stays : Bool
   pub intake : Taking
+  pub tolerance : Option Tolerance
   pub up_to_date : Bool
   pub shares : List Share
   pub asked : Option ℕ
@@ -40,11 +44,11 @@ pub record Course : Type 0 where
 
 -- before any message
 abbrev pub course_begun : List Definition → Bool → Course
-course_begun roster up_to_date = record { stays = false; intake = begun roster; up_to_date = up_to_date; shares = shares_of roster; asked = None; teaching = false; waits = false; due = [] }
+course_begun roster up_to_date = record { stays = false; intake = begun roster; tolerance = None; up_to_date = up_to_date; shares = shares_of roster; asked = None; teaching = false; waits = false; due = [] }
 
--- the session stays
+-- the session stays, and its reader is tolerant from then on
 abbrev pub staying : Course → Course
-staying c = record c { stays = true }
+staying c = record c { stays = true; tolerance = Some nothing_passed }
 
 -- bytes of messages are received
 abbrev pub course_fed : Course → List ℕ → Course
@@ -98,9 +102,16 @@ abbrev pub is_failure : Taken → Bool
 is_failure (taken.Failed kind) = true
 is_failure t = false
 
--- the next message is taken, and isn't an error message
+-- the next message is read, and isn't an error message
 abbrev pub Receives : Course → Taken → Course → Type 0
-Receives c t e = (is_failure t ≡ false) × Gives c.intake (Ok t) e.intake × (e ≡ record c { intake = e.intake })
+Receives c t e =
+    (is_failure t ≡ false)
+    × Reads c.tolerance c.intake (Ok (Some t)) e.intake e.tolerance
+    × (e ≡ record c { intake = e.intake; tolerance = e.tolerance })
+
+-- no message is complete: the reader awaits more bytes
+abbrev pub AwaitsMore : Course → Type 0
+AwaitsMore c = Reads c.tolerance c.intake (Ok None) c.intake c.tolerance
 
 -- these messages are received one after another, and ask for these actions
 abbrev pub AreReceived : Course → List Taken → List Action → Course → Type 0
@@ -112,10 +123,12 @@ AreReceived c (t ∷ ts) acts e =
     × (acts ≡ (message_received mid t).0 ++ rest)
     × AreReceived (message_received mid t).1 ts rest e
 
--- why the next message isn't received: it is an error message, or the intake has a fault
+-- why the next message isn't received: it is an error message, or the reader stops at a fault
 abbrev pub IsHalted : Course → Halt → Type 0
-IsHalted c halts.Failed = (kind : ErrorKind) × (e : Taking) × Gives c.intake (Ok (taken.Failed kind)) e
-IsHalted c (halts.Fault fault) = (fault ≢ faults.Memory) × (e : Taking) × Stops c.intake fault e
+IsHalted c halts.Failed =
+    (kind : ErrorKind) × (e : Taking) × (after : Option Tolerance) × Reads c.tolerance c.intake (Ok (Some (taken.Failed kind))) e after
+IsHalted c (halts.Fault fault) =
+    (fault ≢ faults.Memory) × (e : Taking) × (after : Option Tolerance) × Reads c.tolerance c.intake (Err fault) e after
 IsHalted c halts.Memory = Unit {0}
 
 -- running out of memory is no fault of the remote peer
@@ -125,7 +138,7 @@ halt_of fault = halts.Fault fault
 
 -- The complete messages are received one after another, up to the first that halts the session.
 abbrev pub ReceivesAll : Course → Result (Unit {0}) Halt → List Action → Course → Type 0
-ReceivesAll c (Ok _) acts e = (ts : List Taken) × AreReceived c ts acts e × IntakeNext e.intake (Ok None) e.intake
+ReceivesAll c (Ok _) acts e = (ts : List Taken) × AreReceived c ts acts e × AwaitsMore e
 ReceivesAll c (Err halt) acts e = (ts : List Taken) × (mid : Course) × AreReceived c ts acts mid × IsHalted mid halt
 
 -- the acknowledgements that are due are sent

@@ -4,6 +4,7 @@ pub mod Actions
 pub mod Courses
 pub mod Phases
 pub mod Sessions
+pub mod HeardCounts
 pub mod Runs
 pub mod Cutting
 pub mod Paces

@@ -67,6 +67,11 @@ phase_of (stages.Hello greeter bytes) c = phases.Hello greeter bytes.items c
 phase_of stages.Open c = phases.Open c
 phase_of stages.Ended c = phases.Ended
 
+-- the hello or the status is incomplete
+abbrev pub is_hello : Stage → Bool
+is_hello (stages.Hello greeter bytes) = true
+is_hello stage = false
+
 -- the state of the session that a machine steps
 abbrev pub seen : Machine → SessionState
 seen m = record { phase = phase_of m.stage m.course; known = m.known; fault = m.fault; confirmed = m.confirmed; version = m.version; fell_back = m.fell_back }
@@ -338,7 +343,7 @@ Refuses phase event error = IsWhy (is_asked phase event) error
 
 -- a refused event leaves what stays readable
 abbrev pub Keeps : Machine → Machine → Type 0
-Keeps m e = (e.known ≡ m.known) × (e.fault ≡ m.fault) × (e.confirmed ≡ m.confirmed) × (e.version ≡ m.version) × (e.fell_back ≡ m.fell_back)
+Keeps m e = (e.known ≡ m.known) × (e.fault ≡ m.fault) × (e.confirmed ≡ m.confirmed) × (e.version ≡ m.version) × (e.fell_back ≡ m.fell_back) × (e.heard ≡ m.heard)
 
 -- ---- what a caller can read
 

@@ -1,5 +1,9 @@
 //! Counts of the control messages of a remote peer.
 
+ghost use Rattle.std.specs.Prelude.{◌≡◌};
+ghost use Rattle.session_core.specs.HeardCounts.{counted, message_counted, none_counted, one_more};
+
+use learner::Taken;
 use peers_msg::Control;
 
 /// How often the remote peer has sent each control message. A count that is full stays as it is.
@@ -19,7 +23,9 @@ pub struct Controls {
 
 impl Controls {
     /// Returns the counts before any message.
-    pub(crate) fn none() -> Controls {
+    pub(crate) fn none() -> Controls
+        ensures { result ≡ none_counted }
+    {
         Controls {
             requests: 0,
             finished: 0,
@@ -30,14 +36,31 @@ impl Controls {
     }
 
     /// Counts a control message.
-    pub(crate) fn count(&mut self, control: Control) {
-        let count = match control {
-            Control::ResyncRequest => &mut self.requests,
-            Control::ResyncFinished => &mut self.finished,
-            Control::ResyncPartial => &mut self.partial,
-            Control::ResyncConfirmed => &mut self.confirmed,
-            Control::Heartbeat => &mut self.heartbeats,
-        };
-        *count = count.saturating_add(1);
+    fn count(&mut self, control: Control)
+        ensures { self.new ≡ counted control self.old }
+    {
+        match control {
+            Control::ResyncRequest => self.requests = one_more(self.requests),
+            Control::ResyncFinished => self.finished = one_more(self.finished),
+            Control::ResyncPartial => self.partial = one_more(self.partial),
+            Control::ResyncConfirmed => self.confirmed = one_more(self.confirmed),
+            Control::Heartbeat => self.heartbeats = one_more(self.heartbeats),
+        }
     }
+
+    /// Counts a message if it is a control message.
+    pub(crate) fn count_message(&mut self, taken: &Taken)
+        ensures { self.new ≡ message_counted taken.now self.old }
+    {
+        if let Taken::Said(control) = taken {
+            self.count(*control);
+        }
+    }
+}
+
+/// Returns the count after one more, unless it is full.
+fn one_more(count: u64) -> u64
+    ensures { result ≡ one_more count }
+{
+    count.saturating_add(1)
 }

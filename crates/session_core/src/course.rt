@@ -8,24 +8,24 @@ ghost use Rattle.session_core.specs.Courses.{course_begun, is_held, kind_of, sta
 ghost use Rattle.session_core.specs.Sessions.{first_word, opening};
 
 use crate::action::{Action, push};
-use crate::controls::Controls;
 use crate::due::Due;
 use crate::error::SessionError;
 use crate::share::{Share, any_out, next_table, set_out, set_quiet, shares_of, unquiet};
 use crate::state::State;
-use learner::Intake;
 use peers_msg::Control;
 use std::alloc::Global;
 use std::collections::VecDeque;
 use std::marker::Model;
 use table_types::{CopyKind, Memory, Roster, Version};
+use tolerant_intake::Reader;
 
 /// The course of a session: what it received from the remote peer, and the state of its teaching.
 #[derive(Drop)]
 pub(crate) struct Course {
     /// Whether the session stays for as long as its connection does.
     pub(crate) stays: bool,
-    pub(crate) intake: Intake,
+    /// What reads the remote peer's messages: a tolerant one, if the session stays.
+    pub(crate) reader: Reader,
     /// Whether this node is up to date itself.
     pub(crate) up_to_date: bool,
     /// The tables, in roster order.
@@ -38,8 +38,6 @@ pub(crate) struct Course {
     pub(crate) waits: bool,
     /// The actions not answered yet, in the order in which their answers are due.
     pub(crate) due: VecDeque<Due>,
-    /// The control messages received, which no contract counts.
-    pub(crate) controls: Controls,
 }
 
 impl Model for Course {
@@ -47,7 +45,7 @@ impl Model for Course {
 
     ghost Value = { Course };
 
-    ghost view = { λ c. record { stays = c.stays; intake = c.intake; up_to_date = c.up_to_date; shares = c.shares.items; asked = c.asked; teaching = c.teaching; waits = c.waits; due = c.due.items } };
+    ghost view = { λ c. record { stays = c.stays; intake = c.reader.intake; tolerance = c.reader.tolerance; up_to_date = c.up_to_date; shares = c.shares.items; asked = c.asked; teaching = c.teaching; waits = c.waits; due = c.due.items } };
 }
 
 /// Appends a `Reopen` for each of the tables.
@@ -78,22 +76,25 @@ impl Course {
         let shares = shares_of(alloc, roster.tables())?;
         Ok(Course {
             stays: false,
-            intake: Intake::new(alloc, roster),
+            reader: Reader::new(alloc, roster),
             up_to_date,
             shares,
             asked: None,
             teaching: false,
             waits: false,
             due: VecDeque::new(alloc),
-            controls: Controls::none(),
         })
     }
 
-    /// Has the session stay from now on.
-    pub(crate) fn stay(&mut self)
-        ensures { self.new ≡ staying self.old }
+    /// Returns the course of the session as one that stays from now on. Doesn't allocate.
+    pub(crate) fn stay(self) -> Course
+        ensures { result ≡ staying self }
     {
-        self.stays = true;
+        Course {
+            stays: true,
+            reader: self.reader.tolerate(),
+            ..self
+        }
     }
 
     /// Returns whether a resync request is deferred: while a batch is outstanding, and always if the session stays.

@@ -5,8 +5,10 @@ ghost use Rattle.peers_hello.specs.Hellos.{hello_text, answer_of};
 ghost use Rattle.peers_hello.specs.Statuses.{status_of};
 ghost use Rattle.session_core.specs.declared.action.Action.{Action};
 ghost use Rattle.session_core.specs.declared.action.Action.TheVariants as actions;
+ghost use Rattle.session_core.specs.declared.heard.Heard.{Heard};
 ghost use Rattle.session_core.specs.declared.phase.Greeter.TheVariants as greeters;
 ghost use Rattle.session_core.specs.Actions.{status_text};
+ghost use Rattle.session_core.specs.HeardCounts.{CountsAfter, CountsFor, meeting_of};
 ghost use Rattle.session_core.specs.Courses.{Course};
 ghost use Rattle.session_core.specs.Sessions.{SessionState, Connects, Accepts, Greets, Follows, falls_back, first_word};
 
@@ -91,7 +93,8 @@ fn receive_status(
     word: Control,
     bytes: &[u8],
 ) -> Result<Handshake, Memory>
-    ensures { IfOk result (λ handshake. (s : SessionState) (c : Course) (acts : List Action) (e : SessionState) → word ≡ first_word c.stays → Follows handshake s (greeters.Connects version) bytes.now c acts e → Connects version (status_of bytes.now) s bytes.now c acts e) }
+    ensures follows { IfOk result (λ handshake. (s : SessionState) (c : Course) (acts : List Action) (e : SessionState) → word ≡ first_word c.stays → Follows handshake s (greeters.Connects version) bytes.now c acts e → Connects version (status_of bytes.now) s bytes.now c acts e) }
+    ensures heard { IfOk result (λ handshake. (c : Course) (n m : Heard) → CountsFor handshake bytes.now c n m → CountsAfter (meeting_of (greeters.Connects version) bytes.now) c n m) }
 {
     match read_status(bytes) {
         Status::More => Ok(Handshake::Incomplete),
@@ -124,7 +127,8 @@ fn receive_hello(
     peers: &[Name],
     bytes: &[u8],
 ) -> Result<Handshake, Memory>
-    ensures { IfOk result (λ handshake. (s : SessionState) (c : Course) (acts : List Action) (e : SessionState) → Follows handshake s (greeters.Accepts own.now peers.now) bytes.now c acts e → Accepts (answer_of own.now peers.now bytes.now) s (greeters.Accepts own.now peers.now) bytes.now c acts e) }
+    ensures follows { IfOk result (λ handshake. (s : SessionState) (c : Course) (acts : List Action) (e : SessionState) → Follows handshake s (greeters.Accepts own.now peers.now) bytes.now c acts e → Accepts (answer_of own.now peers.now bytes.now) s (greeters.Accepts own.now peers.now) bytes.now c acts e) }
+    ensures heard { IfOk result (λ handshake. (c : Course) (n m : Heard) → CountsFor handshake bytes.now c n m → CountsAfter (meeting_of (greeters.Accepts own.now peers.now) bytes.now) c n m) }
 {
     match Hello::read(alloc, bytes, own, peers)? {
         Answer::More => Ok(Handshake::Incomplete),
@@ -155,7 +159,8 @@ impl Greeter {
         word: Control,
         bytes: &[u8],
     ) -> Result<Handshake, Memory>
-        ensures { IfOk result (λ handshake. (s : SessionState) (c : Course) (acts : List Action) (e : SessionState) → word ≡ first_word c.stays → Follows handshake s self.now bytes.now c acts e → Greets s self.now bytes.now c acts e) }
+        ensures follows { IfOk result (λ handshake. (s : SessionState) (c : Course) (acts : List Action) (e : SessionState) → word ≡ first_word c.stays → Follows handshake s self.now bytes.now c acts e → Greets s self.now bytes.now c acts e) }
+        ensures heard { IfOk result (λ handshake. (c : Course) (n m : Heard) → CountsFor handshake bytes.now c n m → CountsAfter (meeting_of self.now bytes.now) c n m) }
     {
         match self {
             Greeter::Connects(version) => receive_status(alloc, *version, word, bytes),

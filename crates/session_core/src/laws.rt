@@ -1,6 +1,6 @@
 //! Laws of the definitions, which hold whatever the program does.
 
-ghost use Rattle.std.specs.Prelude.{◌≡◌, ◌⊎◌, ℕ, Bool, None, ◌∷◌, ◌++◌, [], true, false, List, map};
+ghost use Rattle.std.specs.Prelude.{◌≡◌, ◌⊎◌, ℕ, Bool, None, ◌∷◌, ◌++◌, [], true, false, List};
 ghost use Rattle.std.specs.List.{AllByRecursion, list_any};
 ghost use Rattle.table_types.specs.Tables.{Definition};
 ghost use Rattle.table_types.specs.declared.copies.CopyKind.TheVariants as kinds;
@@ -13,15 +13,18 @@ ghost use Rattle.peers_hello.specs.Hellos.{answer_of};
 ghost use Rattle.peers_hello.specs.Meetings.{by_answer, by_status};
 ghost use Rattle.peers_hello.specs.Statuses.{status_of};
 ghost use Rattle.session_core.specs.declared.phase.Greeter.{Greeter};
+ghost use Rattle.session_core.specs.declared.heard.Heard.{Heard};
+ghost use Rattle.session_core.specs.Phases.{Phase};
 ghost use Rattle.session_core.specs.Phases as phases;
+ghost use Rattle.session_core.specs.HeardCounts.{CountsEvent};
 ghost use Rattle.session_core.specs.Courses.{Course};
 ghost use Rattle.session_core.specs.Cutting.{AreFed, IsFedOut, without_acks};
 ghost use Rattle.session_core.specs.Hearing.{Hears, asked_in, heard_in, told};
 ghost use Rattle.session_core.specs.Standing.{is_open, is_reopen};
-ghost use Rattle.session_core.specs.StandingRuns.{At, Lasts};
+ghost use Rattle.session_core.specs.StandingRuns.{Happening, Lasts, handed};
 ghost use Rattle.session_core.specs.Paces.{Pace};
 ghost use Rattle.session_core.specs.Manners as manners;
-ghost use Rattle.session_core.specs.Keeping.{KeptSession, Walks, standing};
+ghost use Rattle.session_core.specs.Keeping.{IsNoCatchUp, KeptSession, Undergoes, standing};
 ghost use Rattle.session_core.specs.Sessions.{SessionState, Goes, accepting, connecting, is_asked};
 ghost use Rattle.session_core.specs.Runs.{Runs, IsBegun, ends_resync, falls_back_in, HasNothingLeft, HasNothingOut, HoldsBytes, BringsBytes, version_in, was_confirmed};
 
@@ -36,14 +39,16 @@ pub fn resyncs_end_taught()
         AllByRecursion (λ d. HasNothingLeft kinds.Resync (steps ++ ((event, acts) ∷ [])) d.id) roster }
 {}
 
-/// Events that come one after another at one moment move a plain session by a run of the protocol's machine, whatever the moment, and
-/// leave it plain (`plain`). They move a session that stays as its pace says, and it stays on (`staying`).
-pub fn walks_are_runs()
-    ensures plain { (now : ℕ) (s e : KeptSession) (steps : List (Event × List Action)) →
-        s.manner ≡ manners.Plain → Walks now s steps e → Runs s.session steps e.session × (e.manner ≡ manners.Plain) }
-    ensures staying { (now : ℕ) (s e : KeptSession) (p : Pace) (steps : List (Event × List Action)) →
-        s.manner ≡ manners.Staying p → Walks now s steps e →
-        (q : Pace) × Lasts (standing s.session p) (map (λ step. At now step.0 step.1) steps) (standing e.session q) × (e.manner ≡ manners.Staying q) }
+/// All that happens to a session is a run: events, ticks, that this node sent bytes, and that it is up to date, in any order and at any
+/// moments. So each law about the runs of a session that stays holds of it, whether or not this node requested a resync (`staying`). What
+/// happens to a plain session is a run of the protocol's machine, in which ticks and bytes that this node sent make no difference, as long
+/// as nobody tells it that this node came to be up to date (`plain`).
+pub fn what_happens_is_a_run()
+    ensures plain { (s e : KeptSession) (steps : List Happening) →
+        s.manner ≡ manners.Plain → AllByRecursion IsNoCatchUp steps → Undergoes s steps e → Runs s.session (handed steps) e.session × (e.manner ≡ manners.Plain) }
+    ensures staying { (s e : KeptSession) (p : Pace) (steps : List Happening) →
+        s.manner ≡ manners.Staying p → Undergoes s steps e →
+        (q : Pace) × Lasts (standing s.session p) steps (standing e.session q) × (e.manner ≡ manners.Staying q) }
 {}
 
 /// An event that may not happen makes no step: no case of the machine fits it.
@@ -80,6 +85,11 @@ pub fn a_fault_ends_the_session()
 pub fn a_step_is_unique()
     ensures { (s e end : SessionState) (event : Event) (acts others : List Action) →
         Goes s event acts e → Goes s event others end → (acts ≡ others) × (e ≡ end) }
+{}
+
+/// What is counted at an event is unique: the event, the phase before it and the counts before it determine the counts after it.
+pub fn what_is_counted_is_unique()
+    ensures { (event : Event) (phase : Phase) (n m k : Heard) → CountsEvent event phase n m → CountsEvent event phase n k → m ≡ k }
 {}
 
 /// Every event that may happen has a step, which gives the actions and the session after it. `run` says so of every run

@@ -11,6 +11,7 @@ mod error;
 mod event;
 mod halt;
 mod handshake;
+mod heard;
 mod laws;
 mod leaving;
 mod machine;
@@ -36,7 +37,7 @@ pub use event::Event;
 pub use laws::{
     a_fault_ends_the_session, a_step_exists, a_step_is_unique, any_answers, any_events,
     any_greeting, confirmed_is_sent, resyncs_end_taught, the_hello_decides, unasked_is_no_step,
-    walks_are_runs,
+    what_happens_is_a_run, what_is_counted_is_unique,
 };
 pub use session::Session;
 pub use standing_laws::{

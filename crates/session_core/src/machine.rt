@@ -9,8 +9,9 @@ ghost use Rattle.session_core.specs.declared.halt.Halt.TheVariants as halts;
 ghost use Rattle.session_core.specs.declared.phase.Greeter.TheVariants as greeters;
 ghost use Rattle.session_core.specs.Phases as phases;
 ghost use Rattle.session_core.specs.declared.phase.Stage.TheVariants as stages;
+ghost use Rattle.session_core.specs.HeardCounts.{CountsEvent, CountsBytes};
 ghost use Rattle.session_core.specs.Courses.{course_fed, none_due, acks_sent, acks_given};
-ghost use Rattle.session_core.specs.Sessions.{Goes, GoesOpen, Keeps, Concludes, Refuses, IsWhy, ended, is_asked, is_asked_open, phase_of, seen, going, kind_of_fault, state_of};
+ghost use Rattle.session_core.specs.Sessions.{Goes, GoesOpen, Keeps, Concludes, Refuses, IsWhy, ended, is_asked, is_asked_open, is_hello, phase_of, seen, going, kind_of_fault, state_of};
 
 use crate::action::{Action, confirms, only, push};
 use crate::course::Course;
@@ -19,6 +20,7 @@ use crate::error::SessionError;
 use crate::event::Event;
 use crate::halt::Halt;
 use crate::handshake::{Handshake, after, greeting};
+use crate::heard::Heard;
 use crate::phase::{Greeter, Stage};
 use crate::state::State;
 use crate::ticked::Ticked;
@@ -43,6 +45,8 @@ pub(crate) struct Machine {
     pub(crate) version: Option<Version>,
     /// Whether status 502 ended the session, which had said version 2.1.
     pub(crate) fell_back: bool,
+    /// What was counted of what the remote peer sent.
+    pub(crate) heard: Heard,
 }
 
 /// Returns the error message that answers a fault.
@@ -73,9 +77,10 @@ impl Machine {
     /// Makes the step at `event`, and returns the actions to perform, in order. After an error the session is over.
     pub(crate) fn on(&mut self, alloc: Global, event: Event) -> Result<Vec<Action>, SessionError>
         ensures goes { IfOk result (λ acts. Goes (seen self.old) event acts.items (seen self.new)) }
+        ensures heard { OnOk result (CountsEvent event (phase_of self.old.stage self.old.course) self.old.heard self.new.heard) }
         ensures refused { IfErr result (λ e. Refuses (phase_of self.old.stage self.old.course) event e) }
         ensures exactly { (e : SessionError) → e ≢ errors.Memory → Refuses (phase_of self.old.stage self.old.course) event e → result ≡ Err e }
-        ensures ended { OnErr result (seen self.new ≡ ended (seen self.old)) }
+        ensures ended { OnErr result ((seen self.new ≡ ended (seen self.old)) × (self.new.heard ≡ self.old.heard)) }
     {
         let given = self.step(alloc, event);
         if given.is_err() {
@@ -105,7 +110,7 @@ impl Machine {
         ensures same { OnOk result (self.new ≡ self.old) }
         ensures refused { IfErr result (λ e. Refuses (phase_of self.old.stage self.old.course) events.Turn e) }
         ensures exactly { (e : SessionError) → e ≢ errors.Memory → Refuses (phase_of self.old.stage self.old.course) events.Turn e → result ≡ Err e }
-        ensures ended { OnErr result (seen self.new ≡ ended (seen self.old)) }
+        ensures ended { OnErr result ((seen self.new ≡ ended (seen self.old)) × (self.new.heard ≡ self.old.heard)) }
     {
         match self.check_turn() {
             Ok(()) => Ok(Ticked {
@@ -123,6 +128,7 @@ impl Machine {
     /// may be anything, and the caller must end the session.
     pub(crate) fn step(&mut self, alloc: Global, event: Event) -> Result<Vec<Action>, SessionError>
         ensures goes { IfOk result (λ acts. Goes (seen self.old) event acts.items (seen self.new)) }
+        ensures heard { OnOk result (CountsEvent event (phase_of self.old.stage self.old.course) self.old.heard self.new.heard) }
         ensures refused { IfErr result (λ e. Refuses (phase_of self.old.stage self.old.course) event e) }
         ensures exactly { (e : SessionError) → e ≢ errors.Memory → Refuses (phase_of self.old.stage self.old.course) event e → result ≡ Err e }
         ensures kept { OnErr result (Keeps self.old self.new) }
@@ -139,41 +145,58 @@ impl Machine {
                 Event::End | Event::ReadFault | Event::WriteFault => self.close(alloc),
                 _ => Err(SessionError::Unasked),
             },
-            Stage::Hello(greeter, bytes) => match event {
-                Event::Bytes(piece) => {
-                    bytes
-                        .extend_from_slice(piece.as_slice())
-                        .map_err(Memory::from)?;
-                    match greeter.receive(alloc, self.course.first_word(), bytes.as_slice())? {
-                        Handshake::Incomplete => Ok(Vec::new(alloc)),
-                        Handshake::Accepted {
-                            used,
-                            version,
-                            answer,
-                        } => {
-                            let mut actions = answer;
-                            self.course.open(version, &mut actions)?;
-                            let rest = after(bytes.as_slice(), used);
-                            let received = self.course.receive_bytes(alloc, rest, &mut actions);
-                            self.conclude(alloc, Some(version), received, &mut actions)?;
-                            Ok(actions)
-                        }
-                        Handshake::Refused {
-                            actions,
-                            falls_back,
-                        } => {
-                            self.fell_back = falls_back || self.fell_back;
-                            self.stage = Stage::Ended;
-                            Ok(actions)
-                        }
-                    }
-                }
-                Event::Turn => Ok(Vec::new(alloc)),
-                Event::End | Event::ReadFault | Event::WriteFault => self.close(alloc),
-                _ => Err(SessionError::Unasked),
-            },
+            Stage::Hello(_, _) => self.go_hello(alloc, event),
             Stage::Open => self.go_open(alloc, event),
             Stage::Ended => Err(SessionError::Ended),
+        }
+    }
+
+    /// Makes the step of a session at `event`, while the hello or the status is incomplete.
+    fn go_hello(&mut self, alloc: Global, event: Event) -> Result<Vec<Action>, SessionError>
+        requires { is_hello self.old.stage ≡ true }
+        ensures goes { IfOk result (λ acts. Goes (seen self.old) event acts.items (seen self.new)) }
+        ensures heard { OnOk result (CountsEvent event (phase_of self.old.stage self.old.course) self.old.heard self.new.heard) }
+        ensures refused { IfErr result (λ e. Refuses (phase_of self.old.stage self.old.course) event e) }
+        ensures exactly { (e : SessionError) → e ≢ errors.Memory → Refuses (phase_of self.old.stage self.old.course) event e → result ≡ Err e }
+        ensures kept { OnErr result (Keeps self.old self.new) }
+    {
+        let Stage::Hello(greeter, bytes) = &mut self.stage else {
+            unreachable!()
+        };
+        match event {
+            Event::Bytes(piece) => {
+                bytes
+                    .extend_from_slice(piece.as_slice())
+                    .map_err(Memory::from)?;
+                match greeter.receive(alloc, self.course.first_word(), bytes.as_slice())? {
+                    Handshake::Incomplete => Ok(Vec::new(alloc)),
+                    Handshake::Accepted {
+                        used,
+                        version,
+                        answer,
+                    } => {
+                        let mut actions = answer;
+                        self.course.open(version, &mut actions)?;
+                        let rest = after(bytes.as_slice(), used);
+                        let mut heard = self.heard;
+                        let received = self.course.hear(alloc, rest, &mut heard, &mut actions);
+                        self.conclude(alloc, Some(version), received, &mut actions)?;
+                        self.heard = heard;
+                        Ok(actions)
+                    }
+                    Handshake::Refused {
+                        actions,
+                        falls_back,
+                    } => {
+                        self.fell_back = falls_back || self.fell_back;
+                        self.stage = Stage::Ended;
+                        Ok(actions)
+                    }
+                }
+            }
+            Event::Turn => Ok(Vec::new(alloc)),
+            Event::End | Event::ReadFault | Event::WriteFault => self.close(alloc),
+            _ => Err(SessionError::Unasked),
         }
     }
 
@@ -181,6 +204,7 @@ impl Machine {
     fn go_open(&mut self, alloc: Global, event: Event) -> Result<Vec<Action>, SessionError>
         requires { self.old.stage ≡ stages.Open }
         ensures goes { IfOk result (λ acts. GoesOpen (seen self.old) self.old.course event acts.items (seen self.new)) }
+        ensures heard { OnOk result (CountsEvent event (phases.Open self.old.course) self.old.heard self.new.heard) }
         ensures refused { IfErr result (λ e. IsWhy (is_asked_open self.old.course.due event) e) }
         ensures kept { OnErr result (Keeps self.old self.new) }
     {
@@ -207,6 +231,7 @@ impl Machine {
     /// Receives the messages in `bytes`, unless an answer is due.
     fn receive(&mut self, alloc: Global, bytes: &[u8]) -> Result<Vec<Action>, SessionError>
         ensures goes { IfOk result (λ acts. GoesOpen (seen self.old) self.old.course (events.Bytes bytes.now) acts.items (seen self.new)) }
+        ensures heard { OnOk result (CountsBytes self.old.course bytes.now self.old.heard self.new.heard) }
         ensures refused { IfErr result (λ e. IsWhy (none_due self.old.course.due) e) }
         ensures kept { OnErr result (Keeps self.old self.new) }
     {
@@ -214,8 +239,10 @@ impl Machine {
             return Err(SessionError::Unasked);
         }
         let mut actions = Vec::new(alloc);
-        let received = self.course.receive_bytes(alloc, bytes, &mut actions);
+        let mut heard = self.heard;
+        let received = self.course.hear(alloc, bytes, &mut heard, &mut actions);
         self.conclude(alloc, self.version, received, &mut actions)?;
+        self.heard = heard;
         Ok(actions)
     }
 
@@ -230,6 +257,7 @@ impl Machine {
     ) -> Result<(), Memory>
         ensures goes { OnOk result (Concludes (record (seen self.old) { version = version }) self.old.course received actions.old.items actions.new.items (seen self.new)) }
         ensures memory { OnOk result (received ≢ Err halts.Memory) }
+        ensures same { self.new.heard ≡ self.old.heard }
         ensures kept { OnErr result (Keeps self.old self.new) }
     {
         match received {

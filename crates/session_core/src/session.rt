@@ -12,6 +12,7 @@ use crate::controls::Controls;
 use crate::course::Course;
 use crate::error::SessionError;
 use crate::event::Event;
+use crate::heard::Heard;
 use crate::machine::Machine;
 use crate::pace::Pace;
 use crate::phase::{Greeter, Stage};
@@ -26,6 +27,7 @@ use peers_hello::Hello;
 use std::alloc::Global;
 use std::marker::Model;
 use table_types::{Items, Memory, Moment, Name, Roster, Version};
+use tolerant_intake::PassedOver;
 
 /// A session between this node and another peer (HAProxy, doc/peers-v2.0.txt). It does no I/O itself: at each event it
 /// returns the actions that its caller performs, in order.
@@ -99,6 +101,7 @@ impl Session {
                 confirmed: false,
                 version: None,
                 fell_back: false,
+                heard: Heard::none(),
             },
             stay: None,
         })
@@ -131,13 +134,14 @@ impl Session {
                 confirmed: false,
                 version: None,
                 fell_back: false,
+                heard: Heard::none(),
             },
             stay: None,
         })
     }
 
-    /// Returns the session as one that stays, from `now` on. Fails with `Memory` if memory runs out. The laws about sessions that stay
-    /// speak of one that was new.
+    /// Returns the session as one that stays, from `now` on; its reader then is a tolerant one. Fails with `Memory` if memory runs out.
+    /// The laws about sessions that stay speak of one that was new.
     pub fn stay(self, now: Moment) -> Result<Session, Memory>
         ensures { IfOk result (λ session. session ≡ kept_from now self) }
     {
@@ -149,7 +153,7 @@ impl Session {
         let pace = Pace::new(alloc, machine.known.roster(), now.milliseconds())?;
         let tally = Tally::new(alloc, machine.known.roster())?;
         let stay = Box::new(alloc, Stay { pace, tally })?;
-        machine.course.stay();
+        machine.course = machine.course.stay();
         Ok(Session {
             alloc,
             machine,
@@ -208,9 +212,18 @@ impl Session {
         self.machine.fell_back
     }
 
-    /// Returns how often the remote peer has sent each control message. No contract says what is counted.
-    pub fn controls(&self) -> Controls {
-        self.machine.course.controls
+    /// Returns how often the remote peer has sent each control message.
+    pub fn controls(&self) -> Controls
+        ensures { result ≡ self.now.heard.controls }
+    {
+        self.machine.heard.controls
+    }
+
+    /// Returns how often something that the remote peer sent was passed over, for each cause, which only a session that stays does.
+    pub fn passed_over(&self) -> PassedOver
+        ensures { result ≡ self.now.heard.passed_over }
+    {
+        self.machine.heard.passed_over
     }
 
     /// Returns how much the session asked for since it stays; of one that doesn't stay nothing is counted. No contract says what is.

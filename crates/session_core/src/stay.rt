@@ -11,6 +11,7 @@ ghost use Rattle.session_core.specs.declared.error.SessionError.{SessionError};
 ghost use Rattle.session_core.specs.declared.error.SessionError.TheVariants as errors;
 ghost use Rattle.session_core.specs.Phases.{Phase};
 ghost use Rattle.session_core.specs.Phases as phases;
+ghost use Rattle.session_core.specs.HeardCounts.{CountsEvent};
 ghost use Rattle.session_core.specs.Courses.{is_due, none_due};
 ghost use Rattle.session_core.specs.Sessions.{Keeps, Refuses, IsWhy, ended, phase_of, seen};
 ghost use Rattle.session_core.specs.Paces.{has_passed, heartbeat_time, is_ahead};
@@ -106,6 +107,7 @@ impl Stay {
         now: u64,
     ) -> Result<Vec<Action>, SessionError>
         ensures hands { IfOk result (λ acts. HandsOn (stood machine.old self.old) now event acts.items (stood machine.new self.new)) }
+        ensures heard { OnOk result (CountsEvent event (phase_of machine.old.stage machine.old.course) machine.old.heard machine.new.heard) }
         ensures refused { IfErr result (λ e. Refuses (phase_of machine.old.stage machine.old.course) event e) }
         ensures kept { OnErr result (Keeps machine.old machine.new × (self.new ≡ self.old)) }
     {
@@ -127,6 +129,7 @@ impl Stay {
         now: u64,
     ) -> Result<Vec<Action>, SessionError>
         ensures listens { IfOk result (λ acts. Listens (stood machine.old self.old) now bytes acts.items (stood machine.new self.new)) }
+        ensures heard { OnOk result (CountsEvent (events.Bytes bytes) (phase_of machine.old.stage machine.old.course) machine.old.heard machine.new.heard) }
         ensures refused { IfErr result (λ e. Refuses (phase_of machine.old.stage machine.old.course) (events.Bytes bytes) e) }
         ensures kept { OnErr result (Keeps machine.old machine.new × (self.new ≡ self.old)) }
     {
@@ -144,6 +147,7 @@ impl Stay {
     ) -> Result<Vec<Action>, SessionError>
         requires { machine.old.stage ≡ stages.Open }
         ensures begins { IfOk result (λ acts. Does tasks.Begin (stood machine.old self.old) machine.old.course now acts.items (stood machine.new self.new)) }
+        ensures heard { OnOk result (machine.new.heard ≡ machine.old.heard) }
         ensures refused { IfErr result (λ e. IsWhy (none_due machine.old.course.due) e) }
         ensures kept { OnErr result (Keeps machine.old machine.new × (self.new ≡ self.old)) }
     {
@@ -166,6 +170,7 @@ impl Stay {
         now: u64,
     ) -> Result<Vec<Action>, SessionError>
         ensures turns { IfOk result (λ acts. TakesTurn (phase_of machine.old.stage machine.old.course) (stood machine.old self.old) now acts.items (stood machine.new self.new)) }
+        ensures heard { OnOk result (machine.new.heard ≡ machine.old.heard) }
         ensures refused { IfErr result (λ e. Refuses (phase_of machine.old.stage machine.old.course) events.Turn e) }
         ensures kept { OnErr result (Keeps machine.old machine.new × (self.new ≡ self.old)) }
     {
@@ -192,6 +197,7 @@ impl Stay {
         ensures writes { IfOk result (λ acts. Writes (phase_of machine.old.stage machine.old.course) (stood machine.old self.old) now known acts.items (stood machine.new self.new)) }
         ensures refused { IfErr result (λ e. Refuses (phase_of machine.old.stage machine.old.course) (events.Written known) e) }
         ensures kept { OnErr result (Keeps machine.old machine.new × (self.new ≡ self.old)) }
+        ensures heard { OnOk result (machine.new.heard ≡ machine.old.heard) }
     {
         check_lesson(machine)?;
         let ack = inferred(self.pace.progress.as_slice(), machine.course.asked);
@@ -213,6 +219,7 @@ impl Stay {
         now: u64,
     ) -> Result<Vec<Action>, SessionError>
         ensures stands { IfOk result (λ acts. Stands (stood machine.old self.old) now (events.Copied table batch) acts.items (stood machine.new self.new)) }
+        ensures heard { OnOk result (machine.new.heard ≡ machine.old.heard) }
         ensures refused { IfErr result (λ e. Refuses (phase_of machine.old.stage machine.old.course) (events.Copied table batch) e) }
         ensures kept { OnErr result (Keeps machine.old machine.new × (self.new ≡ self.old)) }
     {
@@ -231,6 +238,7 @@ impl Stay {
         now: u64,
     ) -> Result<Vec<Action>, SessionError>
         ensures hands { IfOk result (λ acts. HandsOn (stood machine.old self.old) now (answer_of_refusal (is_ahead table self.old.pace.progress) table) acts.items (stood machine.new self.new)) }
+        ensures heard { OnOk result (machine.new.heard ≡ machine.old.heard) }
         ensures refused { IfErr result (λ e. Refuses (phase_of machine.old.stage machine.old.course) (events.Refused table) e) }
         ensures kept { OnErr result (Keeps machine.old machine.new × (self.new ≡ self.old)) }
     {
@@ -250,9 +258,10 @@ impl Stay {
         now: u64,
     ) -> Result<Vec<Action>, SessionError>
         ensures stands { IfOk result (λ acts. Stands (stood machine.old self.old) now event acts.items (stood machine.new self.new)) }
+        ensures heard { OnOk result (CountsEvent event (phase_of machine.old.stage machine.old.course) machine.old.heard machine.new.heard) }
         ensures refused { IfErr result (λ e. Refuses (phase_of machine.old.stage machine.old.course) event e) }
         ensures exactly { (e : SessionError) → e ≢ errors.Memory → Refuses (phase_of machine.old.stage machine.old.course) event e → result ≡ Err e }
-        ensures ended { OnErr result ((seen machine.new ≡ ended (seen machine.old)) × (self.new ≡ self.old)) }
+        ensures ended { OnErr result ((seen machine.new ≡ ended (seen machine.old)) × (machine.new.heard ≡ machine.old.heard) × (self.new ≡ self.old)) }
     {
         let given = self.step(machine, alloc, event, now);
         match &given {
@@ -270,9 +279,10 @@ impl Stay {
         now: u64,
     ) -> Result<Ticked, SessionError>
         ensures ticks { IfOk result (λ t. Ticks (stood machine.old self.old) now t.left.items t.actions.items (stood machine.new self.new)) }
+        ensures heard { OnOk result (machine.new.heard ≡ machine.old.heard) }
         ensures refused { IfErr result (λ e. Refuses (phase_of machine.old.stage machine.old.course) events.Turn e) }
         ensures exactly { (e : SessionError) → e ≢ errors.Memory → Refuses (phase_of machine.old.stage machine.old.course) events.Turn e → result ≡ Err e }
-        ensures ended { OnErr result ((seen machine.new ≡ ended (seen machine.old)) × (self.new ≡ self.old)) }
+        ensures ended { OnErr result ((seen machine.new ≡ ended (seen machine.old)) × (machine.new.heard ≡ machine.old.heard) × (self.new ≡ self.old)) }
     {
         let ticked = self.tick(machine, alloc, now);
         match &ticked {
@@ -295,6 +305,7 @@ impl Stay {
         now: u64,
     ) -> Result<Vec<Action>, SessionError>
         ensures stands { IfOk result (λ acts. Stands (stood machine.old self.old) now event acts.items (stood machine.new self.new)) }
+        ensures heard { OnOk result (CountsEvent event (phase_of machine.old.stage machine.old.course) machine.old.heard machine.new.heard) }
         ensures refused { IfErr result (λ e. Refuses (phase_of machine.old.stage machine.old.course) event e) }
         ensures kept { OnErr result (Keeps machine.old machine.new × (self.new ≡ self.old)) }
     {
@@ -335,6 +346,7 @@ impl Stay {
     ) -> Result<Ticked, SessionError>
         requires { machine.old.stage ≡ stages.Open }
         ensures ticks { IfOk result (λ t. TicksIn false (phases.Open machine.old.course) (stood machine.old self.old) now t.left.items t.actions.items (stood machine.new self.new)) }
+        ensures heard { OnOk result (machine.new.heard ≡ machine.old.heard) }
         ensures memory { IfErr result (λ e. e ≡ errors.Memory) }
         ensures kept { OnErr result (Keeps machine.old machine.new × (self.new ≡ self.old)) }
     {
@@ -362,6 +374,7 @@ impl Stay {
         now: u64,
     ) -> Result<Ticked, SessionError>
         ensures ticks { IfOk result (λ t. TicksIn false (phase_of machine.old.stage machine.old.course) (stood machine.old self.old) now t.left.items t.actions.items (stood machine.new self.new)) }
+        ensures heard { OnOk result (machine.new.heard ≡ machine.old.heard) }
         ensures memory { IfErr result (λ e. e ≡ errors.Memory) }
         ensures kept { OnErr result (Keeps machine.old machine.new × (self.new ≡ self.old)) }
     {
@@ -377,6 +390,7 @@ impl Stay {
     /// Makes the step at a tick of a session that is silent.
     fn tick_silent(&self, machine: &mut Machine, alloc: Global) -> Result<Ticked, SessionError>
         ensures ticks { (phase : Phase) (now : ℕ) → IfOk result (λ t. TicksIn true phase (stood machine.old self.now) now t.left.items t.actions.items (stood machine.new self.now)) }
+        ensures heard { OnOk result (machine.new.heard ≡ machine.old.heard) }
         ensures memory { IfErr result (λ e. e ≡ errors.Memory) }
         ensures kept { OnErr result (Keeps machine.old machine.new) }
     {
@@ -395,6 +409,7 @@ impl Stay {
         now: u64,
     ) -> Result<Ticked, SessionError>
         ensures ticks { IfOk result (λ t. Ticks (stood machine.old self.old) now t.left.items t.actions.items (stood machine.new self.new)) }
+        ensures heard { OnOk result (machine.new.heard ≡ machine.old.heard) }
         ensures refused { IfErr result (λ e. Refuses (phase_of machine.old.stage machine.old.course) events.Turn e) }
         ensures kept { OnErr result (Keeps machine.old machine.new × (self.new ≡ self.old)) }
     {
@@ -408,7 +423,7 @@ impl Stay {
 
     /// Makes resyncs end as finished from now on, unless a table was left.
     pub(crate) fn catch_up(&self, machine: &mut Machine)
-        ensures { stood machine.new self.now ≡ caught_up (stood machine.old self.now) }
+        ensures { (stood machine.new self.now ≡ caught_up (stood machine.old self.now)) × (machine.new.heard ≡ machine.old.heard) }
     {
         machine.course.catch_up(self.pace.left);
     }

@@ -12,9 +12,11 @@ use Rattle.table_types.specs.contracts.roster.Roster as Roster
 use Rattle.admin_text.specs.contracts.peers.Peer as Peer
 use Rattle.admin_text.specs.contracts.table_settings.TableSetting as TableSetting
 use Rattle.admin_text.specs.contracts.configurations.Configuration as Configuration
+use Rattle.node_core.proofs.Crosses.{asking_send}
 use Rattle.table_shards.proofs.Crosses.{shards_sync}
 use Rattle.staying_node.specs.contracts.admin.AdminPort as AdminPort
 use Rattle.staying_node.specs.contracts.admin.Clients as Clients
+use Rattle.staying_node.specs.contracts.catching_up.CatchingUp as CatchingUp
 use Rattle.staying_node.specs.contracts.doors.Doors as Doors
 use Rattle.staying_node.specs.contracts.log.Log as Log
 use Rattle.staying_node.specs.contracts.slot.Slot as Slot
@@ -39,11 +41,14 @@ configuration_sync = search (name_sync, peer_sync, setting_sync, sendable, cross
 slot_sync : IsSync (Slot.the_field).row
 slot_sync = search (sendable, crosses) depth 80 fits 20000
 
+catching_up_sync : IsSync (CatchingUp.the_field).row
+catching_up_sync = search (asking_send, sendable, crosses) depth 80 fits 20000
+
 log_sync : IsSync (Log.the_field).row
 log_sync = search (sendable, crosses) depth 80 fits 20000
 
 pub node_sync : IsSync (Node.the_field).row
-node_sync = search (roster_sync, configuration_sync, slot_sync, log_sync, shards_sync, sendable, crosses) depth 80 fits 20000
+node_sync = search (roster_sync, configuration_sync, slot_sync, catching_up_sync, log_sync, shards_sync, sendable, crosses) depth 80 fits 20000
 
 doors_sync : IsSync (Doors.the_field).row
 doors_sync = search (sendable, crosses) depth 80 fits 20000

@@ -1,4 +1,2 @@
-pub mod CatchingUp
-pub mod Doors
 pub mod Ends
 pub mod Renewals

@@ -23,6 +23,5 @@ mod sessions;
 mod slot;
 mod status;
 mod tables;
-mod ticks;
 
 pub use running::run;

@@ -1,12 +1,13 @@
 //! What the threads of a node share.
 
 use crate::bell::Bell;
-use crate::catching_up::{ALONE, CatchingUp};
+use crate::catching_up::CatchingUp;
 use crate::clock::{NodeClock, milliseconds};
 use crate::fault_counts::FaultCounts;
 use crate::log::Log;
 use crate::slot::Slot;
 use admin_text::Configuration;
+use node_core::ALONE;
 use std::alloc::Global;
 use std::sync::Wait;
 use std::sync::atomic::{AtomicBool, Ordering};
@@ -241,10 +242,17 @@ impl Node {
         }
     }
 
-    /// Wakes all whom it concerns whether the node is up to date, and which peer is being asked.
+    /// Wakes all whom it concerns whether the node is up to date, and which peer is waited for.
     pub(crate) fn tell_of_catching_up<R: Wait>(&self, rt: &R) {
         self.changed.ring(rt);
         self.ring_all(rt);
+    }
+
+    /// Adds a line about the peer with this index to the log.
+    pub(crate) fn log_peer<R: Wait>(&self, rt: &R, peer: usize, words: &[&[u8]]) {
+        if let Some(name) = self.names.get(peer) {
+            self.log.line(rt, name, words);
+        }
     }
 
     /// Rings the bell of each peer.

@@ -2,27 +2,28 @@
 
 ghost use Rattle.std.specs.Io.{WritesAtMost};
 
-use crate::clock::NodeClock;
-use crate::peers::WRITE_TIMEOUT;
+use crate::clock::{NodeClock, milliseconds};
+use node_core::{WRITE_TIME, WriteTime};
 use peers_devices::Faults;
 use std::io;
 use std::io::{ErrorKind, Write};
 use std::net::TcpStream;
 use std::time::Clock;
 
-/// A connection that is written on. A write for which the remote peer reads too slowly fails, and is counted.
+/// A connection that is written on. A write for which the remote peer reads too slowly fails, and is counted: those of one turn have
+/// `WRITE_TIME` in all.
 #[derive(Drop)]
 pub(crate) struct Outbox<'a, R> {
     rt: &'a R,
     clock: NodeClock,
     stream: &'a TcpStream,
     failures: u64,
-    /// Whether the last write waited as long as a write may.
-    slow: bool,
+    /// The time that the writes of the turn have.
+    time: WriteTime,
+    /// How long the system has a write wait, in milliseconds.
+    waits: u64,
     /// When the last write began, in milliseconds since the node did; 0 before any.
     pub(crate) begun: u64,
-    /// The bytes that were written.
-    pub(crate) total: u64,
 }
 
 impl<'a, R> Outbox<'a, R> {
@@ -33,28 +34,42 @@ impl<'a, R> Outbox<'a, R> {
             clock,
             stream,
             failures: 0,
-            slow: false,
+            time: WriteTime::new(),
+            waits: WRITE_TIME,
             begun: 0,
-            total: 0,
         }
     }
 }
 
 impl<'a, R: Clock> Outbox<'a, R> {
-    /// Writes bytes. The system returns how many it took once it has waited for `WRITE_TIMEOUT`, and fails only if it took none; so
-    /// the write after one that waited so long fails.
+    /// Begins a turn, a tick or a request, the writes of which have their time anew.
+    pub(crate) fn begin_turn(&mut self) {
+        self.time = WriteTime::new();
+    }
+
+    /// Has the system have a write wait for so long.
+    fn wait_for(&mut self, time: u64) -> io::Result<()> {
+        if time != self.waits {
+            self.stream.set_write_timeout(Some(milliseconds(time)))?;
+            self.waits = time;
+        }
+        Ok(())
+    }
+
+    /// Writes bytes, for as long as the writes of the turn have left. The system returns how many it took once it has waited for that
+    /// long, and fails only if it took none; no time is left then for the next write.
     fn attempt(&mut self, bytes: &[u8]) -> io::Result<usize>
         ensures { WritesAtMost result bytes.now }
     {
-        if self.slow {
+        let now = self.clock.milliseconds(self.rt);
+        let left = self.time.left(now);
+        if left == 0 {
             return Err(ErrorKind::TimedOut.into());
         }
-        self.begun = self.clock.milliseconds(self.rt);
+        self.wait_for(left)?;
+        self.begun = now;
         let mut to = self.stream;
-        let written = to.write(bytes);
-        let now = self.clock.milliseconds(self.rt);
-        self.slow = now.saturating_sub(self.begun) >= WRITE_TIMEOUT;
-        written
+        to.write(bytes)
     }
 }
 
@@ -70,9 +85,10 @@ impl<'a, R: Clock> Write for Outbox<'a, R> {
     fn write(&mut self, bytes: &[u8]) -> io::Result<usize> {
         let written = self.attempt(bytes);
         match &written {
-            Ok(count) => self.total = self.total.saturating_add(*count as u64),
-            Err(error) if error.kind() == ErrorKind::Interrupted => {}
-            Err(_) => self.failures = self.failures.saturating_add(1),
+            Err(error) if error.kind() != ErrorKind::Interrupted => {
+                self.failures = self.failures.saturating_add(1);
+            }
+            _ => {}
         }
         written
     }

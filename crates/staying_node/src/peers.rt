@@ -5,6 +5,7 @@ use crate::node::{Node, REST};
 use crate::sessions::{Connection, Place, hold};
 use crate::slot::{Arrival, Slot};
 use admin_port::PeerRole;
+use node_core::WRITE_TIME;
 use std::net::{Net, SocketAddr, TcpListener, TcpStream};
 use std::sync::Wait;
 use std::thread::Threads;
@@ -20,14 +21,11 @@ const ATTEMPT: u64 = 2_000;
 /// two nodes don't keep in step.
 const PAUSE: u64 = 2_000;
 
-/// How long a write waits for the remote peer to read, in milliseconds.
-pub(crate) const WRITE_TIMEOUT: u64 = 10_000;
-
-/// Has a connection send at once what is written, and give up writing after `WRITE_TIMEOUT`.
+/// Has a connection send at once what is written, and give up a write after `WRITE_TIME`.
 pub(crate) fn prepared(stream: TcpStream) -> io::Result<TcpStream> {
     stream.set_nodelay(true)?;
     stream.set_read_timeout(None)?;
-    stream.set_write_timeout(Some(milliseconds(WRITE_TIMEOUT)))?;
+    stream.set_write_timeout(Some(milliseconds(WRITE_TIME)))?;
     Ok(stream)
 }
 

@@ -2,13 +2,13 @@
 
 use crate::node::Node;
 use crate::status::{PeerStatus, Totals};
-use crate::tables::{MANY, forget, lock, not_before_latest, slide};
+use crate::tables::{MANY, forget, forget_all, lock, not_before_latest, slide};
 use admin_port::{
-    Answer, HttpRequest, MOST_REQUEST, Metrics, NodeMetrics, PeerMetrics, PeerReport, PeerState,
-    PeerTableReport, Request, TableMetrics, metrics_page, push_answer, push_found, push_live_rows,
-    push_method_not_allowed, push_missing_page, push_node, push_page, push_peers, push_refused,
-    push_rows, push_table_header, push_tracked, push_version_not_supported, read_http_request,
-    read_request,
+    Answer, Extent, Health, HttpRequest, MOST_REQUEST, Metrics, NodeMetrics, Page, PeerMetrics,
+    PeerReport, PeerState, PeerTableReport, Request, TableMetrics, metrics_page, push_answer,
+    push_found, push_health, push_live_rows, push_method_not_allowed, push_metrics,
+    push_missing_page, push_node, push_overview, push_peers, push_ready, push_refused, push_rows,
+    push_table_header, push_tracked, push_version_not_supported, read_http_request, read_request,
 };
 use admin_text::TableSetting;
 use node_text::LineError;
@@ -38,8 +38,11 @@ pub(crate) struct Reading {
     whole: usize,
     /// Whether the next line is the first one, which alone may be that of an HTTP request.
     is_first: bool,
-    /// The HTTP request for a page. The requester answers it once it has read the head of the request.
-    page: Option<HttpRequest>,
+    /// The page that an HTTP request is for, and how much of the answer. The requester answers it once it has read the head of the
+    /// request.
+    page: Option<(Page, Extent)>,
+    /// Whether a request was answered since that was last asked.
+    answered: bool,
 }
 
 impl Reading {
@@ -52,7 +55,15 @@ impl Reading {
             whole: 0,
             is_first: true,
             page: None,
+            answered: false,
         }
+    }
+
+    /// Returns whether a request was answered since this was last asked.
+    pub(crate) fn take_answered(&mut self) -> bool {
+        let answered = self.answered;
+        self.answered = false;
+        answered
     }
 
     /// Returns the HTTP request of the line, if it is the first one.
@@ -96,14 +107,18 @@ enum After {
 /// Answers an HTTP request at once, unless it is for a page, of which the head has to be read first.
 fn answer_http(reading: &mut Reading, request: HttpRequest) -> Result<After, AllocError> {
     match request {
-        HttpRequest::Metrics | HttpRequest::OtherPage => {
-            reading.page = Some(request);
-            return Ok(After::GoesOn);
+        HttpRequest::Get(page) => reading.page = Some((page, Extent::Whole)),
+        HttpRequest::Head(page) => reading.page = Some((page, Extent::Head)),
+        HttpRequest::OtherVersion => {
+            push_version_not_supported(&mut reading.answers)?;
+            return Ok(After::Closes);
         }
-        HttpRequest::OtherVersion => push_version_not_supported(&mut reading.answers)?,
-        HttpRequest::OtherMethod => push_method_not_allowed(&mut reading.answers)?,
+        HttpRequest::OtherMethod => {
+            push_method_not_allowed(&mut reading.answers)?;
+            return Ok(After::Closes);
+        }
     }
-    Ok(After::Closes)
+    Ok(After::GoesOn)
 }
 
 /// Which rows of a table are listed, and how.
@@ -134,15 +149,16 @@ impl<'a> Requester<'a> {
         }
     }
 
-    /// Returns the allocator.
-    pub(crate) fn alloc(&self) -> Global {
-        self.node.alloc
+    /// Returns the node.
+    pub(crate) fn node(&self) -> &'a Node {
+        self.node
     }
 
-    /// Wakes the peers' workers if keys were tracked.
+    /// Wakes the peers' workers if keys were tracked, and drops the receipts of that.
     pub(crate) fn tell_peers<R: Wait>(&mut self, rt: &R) {
         if self.tracked {
             self.tracked = false;
+            forget_all(self.node, &mut self.seat);
             self.node.ring_all(rt);
         }
     }
@@ -165,7 +181,10 @@ impl<'a> Requester<'a> {
                 reading.write(output)?;
             }
             match self.answer_whole_line(rt, reading, output)? {
-                After::GoesOn => reading.line.clear(),
+                After::GoesOn => {
+                    reading.line.clear();
+                    reading.answered |= reading.page.is_none();
+                }
                 After::Closes => return self.close(rt, reading, output),
                 After::Stops => {
                     let closed = self.close(rt, reading, output);
@@ -227,8 +246,8 @@ impl<'a> Requester<'a> {
             push_answer(&mut reading.answers, Answer::Refused)?;
             return Ok(After::Closes);
         }
-        if let Some(page) = reading.page {
-            return Ok(self.answer_head(rt, reading, page)?);
+        if let Some((page, extent)) = reading.page {
+            return Ok(self.answer_head(rt, reading, page, extent)?);
         }
         if let Some(request) = reading.http_request() {
             return Ok(answer_http(reading, request)?);
@@ -255,18 +274,31 @@ impl<'a> Requester<'a> {
         &mut self,
         rt: &R,
         reading: &mut Reading,
-        page: HttpRequest,
+        page: Page,
+        extent: Extent,
     ) -> Result<After, AllocError> {
         if !matches!(reading.line.as_slice(), [] | [b'\r']) {
             return Ok(After::GoesOn);
         }
-        if matches!(page, HttpRequest::Metrics) {
-            let metrics = self.page(rt)?;
-            push_page(&mut reading.answers, metrics.as_slice())?;
-        } else {
-            push_missing_page(&mut reading.answers)?;
-        }
+        self.push_page(rt, &mut reading.answers, page, extent)?;
         Ok(After::Closes)
+    }
+
+    /// Appends the answer to an HTTP request for a page.
+    fn push_page<R: Wait + Clock>(
+        &self,
+        rt: &R,
+        text: &mut Vec<u8>,
+        page: Page,
+        extent: Extent,
+    ) -> Result<(), AllocError> {
+        match page {
+            Page::Metrics => push_metrics(text, extent, self.metrics(rt)?.as_slice()),
+            Page::Health => push_health(self.node.alloc, text, extent, &self.health(rt)),
+            Page::Ready => push_ready(text, extent),
+            Page::Overview => push_overview(text, extent),
+            Page::Missing => push_missing_page(text),
+        }
     }
 
     /// Answers a request.
@@ -631,8 +663,22 @@ impl<'a> Requester<'a> {
         }
     }
 
+    /// Returns what the health of the node is told by.
+    fn health<R: Wait>(&self, rt: &R) -> Health {
+        let mut peers_up = 0u64;
+        for slot in &self.node.slots {
+            let is_up = slot.status(rt).state != PeerState::Down;
+            peers_up = peers_up.saturating_add(u64::from(is_up));
+        }
+        Health {
+            up_to_date: self.node.catching_up.is_up_to_date(rt),
+            peers: self.node.slots.len() as u64,
+            peers_up,
+        }
+    }
+
     /// Returns the page of metrics.
-    fn page<R: Wait + Clock>(&self, rt: &R) -> Result<Vec<u8>, AllocError> {
+    fn metrics<R: Wait + Clock>(&self, rt: &R) -> Result<Vec<u8>, AllocError> {
         let alloc = self.node.alloc;
         let metrics = Metrics {
             section: &self.node.configuration.section,

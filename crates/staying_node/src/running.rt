@@ -55,6 +55,17 @@ fn ports_of<N: Net<Listener = TcpListener, Stream = TcpStream>>(
     })
 }
 
+/// Has the node no longer wait for a peer that doesn't answer, and has it be up to date if nobody has more to teach.
+fn pass<N: Wait>(rt: &N, node: &Node, now: u64) {
+    let passed = node.catching_up.pass(rt, now);
+    if let Some(peer) = passed.unanswered {
+        node.log_peer(rt, peer, &[b"unanswered"]);
+    }
+    if passed.settled || passed.unanswered.is_some() {
+        node.tell_of_catching_up(rt);
+    }
+}
+
 /// Looks after the tables until the node stops.
 fn keep_tables<N: Wait + Clock>(rt: &N, node: &Node, mut seat: Seat) {
     let mut purge = 0;
@@ -69,9 +80,7 @@ fn keep_tables<N: Wait + Clock>(rt: &N, node: &Node, mut seat: Seat) {
             purge = now.saturating_add(PURGING);
         }
         let soon = keep(rt, node, &mut seat, purges);
-        if node.catching_up.pass(rt, now) {
-            node.tell_of_catching_up(rt);
-        }
+        pass(rt, node, now);
         let time = if soon { KEEPING } else { IDLING };
         node.changed.wait(rt, seen, milliseconds(time));
     }
@@ -228,8 +237,8 @@ pub fn run<
     I: Read + Faults,
     E: Write + Faults,
 >(rt: &N, alloc: Global, input: &mut I, errors: &mut E) -> Ending {
-    match configuration_of(alloc, input) {
+    match configuration_of(alloc, input, errors) {
         Ok(configuration) => run_node(rt, alloc, configuration, errors).said(alloc, errors),
-        Err(ending) => ending.said(alloc, errors),
+        Err(ending) => ending,
     }
 }

@@ -8,10 +8,11 @@ use crate::node::Node;
 use crate::outbox::Outbox;
 use crate::slot::Slot;
 use crate::status::{ResyncEnd, Totals};
-use crate::tables::{close, forget, number_of, reopen};
-use crate::ticks::{Ticks, Traffic};
+use crate::tables::{close, forget, forget_all, number_of, reopen};
 use admin_port::{PassedOver, PeerRole, PeerState, SessionEnd};
+use node_core::{Ticks, Traffic};
 use node_text::push_number;
+use peers_devices::Writes;
 use peers_engine::{AlwaysOpen, Outcome, Worker};
 use peers_hello::Hello;
 use session_core::{Controls, Session, State};
@@ -97,16 +98,20 @@ struct Work<'a, N> {
     slot: &'a Slot,
     from: Intake<'a, N>,
     to: Outbox<'a, N>,
+    /// What the writes to it came to.
+    writes: Writes,
     worker: Worker,
     role: PeerRole,
     /// Whether the session knows that the node is up to date.
     up_to_date: bool,
     /// Whether the session's hello was over.
     begun: bool,
-    /// The control messages received before the resync request that is under way, if one is.
+    /// The control messages received before the last resync request, if it isn't answered.
     asking: Option<Controls>,
     /// The rows that were learned and taught before the resync that isn't over.
     rows: (u64, u64),
+    /// The rows that came so far, as far as the peer is said to have brought them.
+    brought: u64,
     /// Whether the session was teaching in a resync.
     teaching: bool,
     /// The turns in a row in which there was nothing to do.
@@ -140,12 +145,14 @@ impl<'a, N: Wait + Clock> Work<'a, N> {
             slot,
             from,
             to,
+            writes: Writes::none(),
             worker,
             role,
             up_to_date: false,
             begun: false,
             asking: None,
             rows: (0, 0),
+            brought: 0,
             teaching: false,
             idle: 0,
             ticks: Ticks::new(node.clock.milliseconds(rt)),
@@ -171,6 +178,7 @@ impl<'a, N: Wait + Clock> Work<'a, N> {
             }
             if self.idle >= tables {
                 self.idle = 0;
+                forget_all(self.node, &mut self.worker.seat);
                 self.report();
                 let now = self.node.clock.milliseconds(rt);
                 let time = self.ticks.rest(now);
@@ -215,7 +223,7 @@ impl<'a, N: Wait + Clock> Work<'a, N> {
     fn note_traffic(&mut self) {
         let controls = self.worker.session.controls();
         let traffic = Traffic {
-            sent: self.to.total,
+            sent: self.writes.taken,
             received: self.from.total,
             heartbeats: self
                 .worker
@@ -232,17 +240,19 @@ impl<'a, N: Wait + Clock> Work<'a, N> {
     /// Takes a tick if one is due, and a turn. Returns why the session ended, if it did.
     fn step(&mut self) -> Option<SessionEnd> {
         let begun = self.node.clock.milliseconds(self.rt);
-        if self.ticks.is_due(begun) {
+        if self.ticks.is_tick(begun, self.from.arrived()) {
             if let Some(end) = self.take_tick() {
                 return Some(end);
             }
         }
         let now = self.node.clock.now(self.rt);
+        self.to.begin_turn();
         let turned = self.worker.turn(
             self.rt,
             self.node.alloc,
             &mut self.from,
             &mut self.to,
+            &mut self.writes,
             &AlwaysOpen,
             &self.node.shards,
             now,
@@ -262,10 +272,12 @@ impl<'a, N: Wait + Clock> Work<'a, N> {
     /// Takes a tick, and does what else is to be done now and then. Returns why the session ended, if it did.
     fn take_tick(&mut self) -> Option<SessionEnd> {
         let now = self.node.clock.now(self.rt);
+        self.to.begin_turn();
         let ticked = self.worker.tick(
             self.rt,
             self.node.alloc,
             &mut self.to,
+            &mut self.writes,
             &self.node.shards,
             now,
         );
@@ -289,16 +301,15 @@ impl<'a, N: Wait + Clock> Work<'a, N> {
             State::Ready | State::Teaching => self.begin(),
         }
         self.look_at_teaching();
+        self.look_at_rows();
         self.look_at_asking();
         self.catch_up();
-        if self.up_to_date
-            || self.asking.is_some()
-            || !self.node.catching_up.asks(self.rt, self.peer)
-        {
+        if self.up_to_date || !self.is_next() {
             return None;
         }
         self.begin_asking();
-        match self.worker.request(&mut self.to, now) {
+        self.to.begin_turn();
+        match self.worker.request(&mut self.to, &mut self.writes, now) {
             Ok(_) => None,
             Err(error) => Some(end_of_error(error)),
         }
@@ -324,14 +335,13 @@ impl<'a, N: Wait + Clock> Work<'a, N> {
         let mut status = self.slot.status(self.rt);
         status.begin(now, version);
         drop(status);
+        self.node.catching_up.begin(self.rt, self.peer);
         self.log(&[b"up", role_name(self.role).as_bytes()]);
     }
 
     /// Adds a line about the peer to the log.
     fn log(&self, words: &[&[u8]]) {
-        if let Some(peer) = self.node.configuration.peers.get(self.peer) {
-            self.node.log.line(self.rt, &peer.name, words);
-        }
+        self.node.log_peer(self.rt, self.peer, words);
     }
 
     /// Adds a line about the peer to the log that ends with a number.
@@ -411,6 +421,29 @@ impl<'a, N: Wait + Clock> Work<'a, N> {
         );
     }
 
+    /// Returns whether the peer is to be asked for all rows now, and notes that it is.
+    fn is_next(&self) -> bool {
+        let now = self.node.clock.milliseconds(self.rt);
+        self.node.catching_up.asks(self.rt, self.peer, now)
+    }
+
+    /// Notes that the peer has brought rows, if it has since the last look: learned ones, or such as are passed over.
+    fn look_at_rows(&mut self) {
+        let passed_over = self.passed_over();
+        let brought = (self.worker.session.counts().learned)
+            .saturating_add(passed_over.value)
+            .saturating_add(passed_over.slot)
+            .saturating_add(passed_over.data_type);
+        if brought == self.brought {
+            return;
+        }
+        self.brought = brought;
+        if self.asking.is_some() {
+            let now = self.node.clock.milliseconds(self.rt);
+            self.node.catching_up.hear(self.rt, self.peer, now);
+        }
+    }
+
     /// Notes that the session is asked for a resync.
     fn begin_asking(&mut self) {
         self.asking = Some(self.worker.session.controls());
@@ -449,8 +482,7 @@ impl<'a, N: Wait + Clock> Work<'a, N> {
             self.end_learning(ResyncEnd::Finished);
             self.set_state();
         } else if controls.partial > before.partial {
-            let now = self.node.clock.milliseconds(self.rt);
-            self.node.catching_up.give_up(self.rt, self.peer, now);
+            self.node.catching_up.finish_partly(self.rt, self.peer);
             self.node.tell_of_catching_up(self.rt);
             self.end_learning(ResyncEnd::Partial);
             self.set_state();
@@ -464,7 +496,7 @@ impl<'a, N: Wait + Clock> Work<'a, N> {
             taught: self.worker.session.counts().taught,
             heartbeats_sent: self.worker.session.counts().heartbeats,
             heartbeats_received: self.worker.session.controls().heartbeats,
-            bytes_sent: self.to.total,
+            bytes_sent: self.writes.taken,
             bytes_received: self.from.arrived(),
             passed_over: self.passed_over(),
         }
@@ -472,7 +504,7 @@ impl<'a, N: Wait + Clock> Work<'a, N> {
 
     /// Returns what was passed over so far.
     fn passed_over(&self) -> PassedOver {
-        let counts = self.from.passed_over();
+        let counts = self.worker.session.passed_over();
         PassedOver {
             definition: counts.definition,
             value: counts.value,
@@ -483,7 +515,7 @@ impl<'a, N: Wait + Clock> Work<'a, N> {
 
     /// Adds a line to the log if a table was passed over, once for the session.
     fn look_at_passed_over(&mut self) {
-        let counts = self.from.passed_over();
+        let counts = self.worker.session.passed_over();
         if !self.passes_over && (counts.definition > 0 || counts.data_type > 0) {
             self.passes_over = true;
             self.log(&[b"table", b"passed", b"over"]);
@@ -521,27 +553,21 @@ impl<'a, N: Wait + Clock> Work<'a, N> {
         if self.teaching {
             self.end_teaching(ResyncEnd::Broken);
         }
-        let now = self.node.clock.milliseconds(self.rt);
-        if self.asking.is_some() {
-            self.node.catching_up.give_up(self.rt, self.peer, now);
+        if self.begun {
+            self.node.catching_up.end(self.rt, self.peer);
             self.node.tell_of_catching_up(self.rt);
+        }
+        if self.asking.is_some() {
             self.end_learning(ResyncEnd::Broken);
         }
         self.report();
+        let now = self.node.clock.milliseconds(self.rt);
         let mut status = self.slot.status(self.rt);
         status.end(end, now);
         drop(status);
         if self.begun {
             self.log(&[b"down", end.name().as_bytes()]);
         }
-    }
-}
-
-/// Returns how many lines come before the messages of a connection: the three of a hello, or the one of a status.
-fn lines_of(role: PeerRole) -> u32 {
-    match role {
-        PeerRole::Connect => 1,
-        PeerRole::Accept => 3,
     }
 }
 
@@ -579,7 +605,7 @@ pub(crate) fn hold<N: Threads + Wait + Clock + Sync>(
     (seat, fell_back)
 }
 
-/// Holds a session that is open in each table over a connection, unless memory runs out. Gives its worker back.
+/// Holds a session that is open in each table over a connection. Gives its worker back.
 fn hold_over<N: Threads + Wait + Clock + Sync>(
     place: &Place<'_, N>,
     worker: Worker,
@@ -592,15 +618,12 @@ fn hold_over<N: Threads + Wait + Clock + Sync>(
         bytes,
         ..
     } = connection;
-    let Ok(roster) = node.roster.copy(node.alloc) else {
-        return worker;
-    };
     let inbox = Inbox::new(bytes);
     slot.set_present(rt, stream.try_clone().ok());
     let mut status = slot.status(rt);
     status.connect(role);
     drop(status);
-    let from = Intake::new(&*rt, node.alloc, &inbox, roster, lines_of(role));
+    let from = Intake::new(&*rt, &inbox);
     let to = Outbox::new(&*rt, node.clock, &stream);
     let here = Place {
         rt: &*rt,

@@ -1,12 +1,10 @@
 //! What is known of a peer, for those who ask.
 
 use admin_port::{PassedOver, PeerRole, PeerState, ResyncsEnded, SessionEnd, SessionsEnded};
+use node_core::rests_until;
 use session_core::TableTally;
 use std::alloc::{AllocError, Global};
 use table_types::Version;
-
-/// A minute, in milliseconds.
-const MINUTE: u64 = 60_000;
 
 /// What sessions did, counted. A count that is full stays as it is.
 #[derive(Clone, Copy, Debug)]
@@ -167,14 +165,9 @@ impl PeerStatus {
         self.before.plus(self.present)
     }
 
-    /// Returns the time until which the node doesn't connect to the peer: a minute after a fault that was the third within one.
+    /// Returns the time until which the node doesn't connect to the peer.
     pub(crate) fn rests_until(&self) -> u64 {
-        match (self.faulted[0], self.faulted[2]) {
-            (Some(last), Some(first)) if last.saturating_sub(first) < MINUTE => {
-                last.saturating_add(MINUTE)
-            }
-            _ => 0,
-        }
+        rests_until(self.faulted[0], self.faulted[2])
     }
 
     /// Notes that a connection is there.

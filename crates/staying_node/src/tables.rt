@@ -60,6 +60,13 @@ pub(crate) fn forget(seat: &mut Seat, table: u64) {
     }
 }
 
+/// Drops all receipts of a seat. Nobody reads them, and each keeps its event in memory.
+pub(crate) fn forget_all(node: &Node, seat: &mut Seat) {
+    for table in node.roster.tables() {
+        seat.forget(table.id());
+    }
+}
+
 /// Returns whether a table is to get new numbers.
 fn is_spent(locked: &Locked) -> bool
     ensures { result ≡ is_spent locked.now }
@@ -109,8 +116,8 @@ pub(crate) fn keep<R: Wait + Clock>(rt: &R, node: &Node, seat: &mut Seat, purges
             }
             waits = renumber(&mut locked, seat, id) || waits;
         }
-        forget(seat, id);
     }
+    forget_all(node, seat);
     node.set_paused(rt, waits);
     long || waits
 }

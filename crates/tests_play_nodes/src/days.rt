@@ -4,7 +4,7 @@ use crate::pipes::Pipe;
 use crate::sides::rows;
 use crate::staying::{Stayer, are_equal};
 use crate::tables::{Role, Tables};
-use peers_devices::Counting;
+use peers_devices::{Counting, Writes};
 use session_core::State;
 use std::alloc::Global;
 use std::sync::Wait;
@@ -128,7 +128,9 @@ impl Member {
             self.lacks = false;
         } else if !self.asked {
             let mut writer = Counting::new(Vec::new(alloc));
-            self.asked = self.stayer.worker.request(&mut writer, now).ok()?;
+            let mut writes = Writes::none();
+            let asked = self.stayer.worker.request(&mut writer, &mut writes, now);
+            self.asked = asked.ok()?;
             output.bytes.append(&mut writer.into_inner()).ok()?;
         }
         Some(())

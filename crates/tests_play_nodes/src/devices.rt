@@ -1,7 +1,9 @@
 //! Devices that give or take a byte a call, and then fail, stop or go on for ever.
 
 use crate::narrow::{Narrow, Then, Uncounted};
-use peers_devices::{Counting, Faults, ReadError, WriteError, read_to_end, write_all};
+use peers_devices::{
+    Counting, Faults, ReadError, WriteError, Writes, read_to_end, write_all, write_all_counted,
+};
 use std::alloc::Global;
 use std::io::{Read, Write};
 use text_commands::{Ending, lesson};
@@ -111,10 +113,39 @@ fn is_written((device, expected, calls): &Writing) -> bool {
     }
 }
 
+/// Returns whether the counts are those of a write of `abc` that returned `expected`.
+fn are_counted(writes: &Writes, expected: &Result<(), WriteError>) -> bool {
+    let (taken, failed, stuck) = match expected {
+        Ok(()) => (3, false, false),
+        Err(WriteError::Failed { sent }) => (*sent as u64, true, false),
+        Err(WriteError::Stuck { sent }) => (*sent as u64, false, true),
+    };
+    let wears_out = writes.idle > 0 || writes.retried > 1_000_000;
+    writes.taken == taken && (writes.failed > 0) == failed && wears_out == stuck
+}
+
+/// Returns whether `abc` is written to the device, and its writes are counted.
+fn is_written_counted((device, expected, calls): &Writing) -> bool {
+    let mut writes = Writes::none();
+    let is_written = match device {
+        Device::Counted(bytes, then) => {
+            let mut narrow = Counting::new(Narrow::new(*bytes, *then));
+            write_all_counted(&mut narrow, &mut writes, b"abc") == *expected
+                && narrow.into_inner().calls == *calls
+        }
+        Device::Uncounted(bytes, then) => {
+            let mut uncounted = Uncounted::new(*bytes, *then);
+            write_all_counted(&mut uncounted, &mut writes, b"abc") == *expected
+                && uncounted.device.calls == *calls
+        }
+    };
+    is_written && are_counted(&writes, expected)
+}
+
 /// Writes to each device. Returns the index of the first that fails.
 pub fn first_miswritten(writings: &[Writing]) -> Option<usize> {
     for (place, writing) in writings.iter().enumerate() {
-        if !is_written(writing) {
+        if !is_written(writing) || !is_written_counted(writing) {
             return Some(place);
         }
     }

@@ -1,6 +1,6 @@
 //! Devices that fail after some calls, for tests of other crates.
 
-use peers_devices::{Counting, Faults};
+use peers_devices::{Counting, Faults, Writes};
 use peers_engine::{Fused, PiecesError, WriteFault, write_lesson, write_pieces};
 use std::alloc::Global;
 use std::io::Read;
@@ -50,7 +50,7 @@ fn is_written_in_pieces(alloc: Global, row: &InPieces) -> Option<bool> {
     let batch = Batch::new(alloc, known.roster(), updates(alloc, row.updates)?).ok()?;
     let pieces = Pieces::new(alloc, &known, &batch).ok()?;
     let mut output = Counting::new(Fused::new(Vec::new(alloc), row.room));
-    let error = write_pieces(alloc, &mut output, pieces).err();
+    let error = write_pieces(alloc, &mut output, &mut Writes::none(), pieces).err();
     let bytes = output.into_inner().into_inner();
     Some(error == row.error && bytes.len() == row.count && bytes.starts_with(row.first))
 }

@@ -3,7 +3,7 @@
 use crate::sides::{SESSION, Side};
 use crate::turns::{Story, is_lived};
 use crate::waiting::Waiting;
-use peers_devices::{Counting, Faults};
+use peers_devices::{Counting, Faults, Writes};
 use peers_engine::{EngineError, Gate, Stage, Turned, Worker};
 use std::alloc::Global;
 use std::io::Write;
@@ -122,7 +122,18 @@ fn teaches<H: Wait, W: Write + Faults, G: Gate>(
     shards: &Shards,
 ) -> Result<Turned, EngineError> {
     let mut input = Waiting::new(b"");
-    let outcome = worker.turn(rt, alloc, &mut input, output, gate, shards, Moment::least())?;
+    let mut writes = Writes::none();
+    let now = Moment::least();
+    let outcome = worker.turn(
+        rt,
+        alloc,
+        &mut input,
+        output,
+        &mut writes,
+        gate,
+        shards,
+        now,
+    )?;
     Ok(outcome.turned())
 }
 

@@ -1,6 +1,6 @@
 //! A session with its tables.
 
-use peers_devices::Faults;
+use peers_devices::{Faults, Writes};
 use peers_engine::{EngineError, Gate, Turned, Worker};
 use std::alloc::Global;
 use std::io::{Read, Write};
@@ -30,10 +30,17 @@ impl Side {
         output: &mut W,
         gate: &G,
     ) -> Result<Turned, EngineError> {
-        let now = Moment::least();
-        let outcome = self
-            .worker
-            .turn(rt, alloc, input, output, gate, &self.shards, now)?;
+        let mut writes = Writes::none();
+        let outcome = self.worker.turn(
+            rt,
+            alloc,
+            input,
+            output,
+            &mut writes,
+            gate,
+            &self.shards,
+            Moment::least(),
+        )?;
         Ok(outcome.turned())
     }
 }

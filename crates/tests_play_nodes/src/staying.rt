@@ -4,7 +4,7 @@ use crate::pipes::Pipe;
 use crate::sides::rows;
 use crate::tables::{Role, Tables};
 use crate::waiting::Waiting;
-use peers_devices::Counting;
+use peers_devices::{Counting, Writes};
 use peers_engine::{AlwaysOpen, Outcome, Worker};
 use session_core::{Session, State};
 use std::alloc::Global;
@@ -98,12 +98,14 @@ impl Stayer {
         let piece = input.piece(4_096);
         let mut reader = Waiting::new(piece);
         let mut writer = Counting::new(Vec::new(alloc));
+        let mut writes = Writes::none();
         let shards = &self.shards;
         let outcome = self.worker.turn(
             rt,
             alloc,
             &mut reader,
             &mut writer,
+            &mut writes,
             &AlwaysOpen,
             shards,
             now,
@@ -125,9 +127,10 @@ impl Stayer {
         most: u32,
     ) -> Option<()> {
         let mut writer = Counting::new(Vec::new(alloc));
+        let mut writes = Writes::none();
         let ticked = self
             .worker
-            .tick(rt, alloc, &mut writer, &self.shards, now)
+            .tick(rt, alloc, &mut writer, &mut writes, &self.shards, now)
             .ok()?;
         output.bytes.append(&mut writer.into_inner()).ok()?;
         if ticked == Outcome::Closed {

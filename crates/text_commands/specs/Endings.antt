@@ -8,8 +8,6 @@ use Rattle.peers_devices.specs.declared.input.ReadError.{ReadError}
 use Rattle.peers_devices.specs.declared.input.ReadError.TheVariants as input
 use Rattle.node_text.specs.declared.error.SceneError.{SceneError}
 use Rattle.node_text.specs.declared.error.SceneError.TheVariants as scenes
-use Rattle.admin_text.specs.declared.error.ConfigurationError.{ConfigurationError}
-use Rattle.admin_text.specs.declared.error.ConfigurationError.TheVariants as configurations
 use Rattle.table_types.specs.declared.batch.BatchError.{BatchError}
 use Rattle.table_types.specs.declared.batch.BatchError.TheVariants as batches
 use Rattle.table_types.specs.declared.roster.RosterError.{RosterError}
@@ -35,7 +33,7 @@ abbrev pub line_of : Ending → List ℕ
 line_of Done = []
 line_of (Line number) = codes "line " ++ (decimal number ++ codes ": refused\n")
 line_of Scene = codes "scene: refused\n"
-line_of Configuration = codes "configuration: refused\n"
+line_of Configuration = []
 line_of (Stream fault) = codes "fault " ++ (fault_name fault ++ codes "\n")
 line_of NotShortest = []
 line_of Strange = codes "fault Strange\n"
@@ -64,11 +62,6 @@ abbrev pub of_scene : SceneError → Ending
 of_scene (scenes.Line number) = Line number
 of_scene scenes.Scene = Scene
 of_scene scenes.Memory = Memory
-
-abbrev pub of_configuration : ConfigurationError → Ending
-of_configuration (configurations.Line number) = Line number
-of_configuration configurations.Configuration = Configuration
-of_configuration configurations.Memory = Memory
 
 abbrev pub of_roster : RosterError → Ending
 of_roster rosters.Memory = Memory

@@ -1,42 +1,62 @@
-//! The subcommand `run --check`.
-ghost use Rattle.std.specs.Prelude.{◌≢◌, IfErr, IfOk};
+//! The subcommand `run --check`, and the configuration that `run` reads.
+ghost use Rattle.std.specs.Prelude.{◌≡◌, ◌≢◌, ◌⊎◌, IfErr, IfOk, OnOk};
 ghost use Rattle.std.specs.Io.KnownBytes.{Appends};
 ghost use Rattle.admin_text.specs.Configurations.{IsConfiguration};
-ghost use Rattle.text_commands.specs.Configuring.{EndsConfiguration};
-ghost use Rattle.text_commands.specs.Endings.{line_of};
+ghost use Rattle.text_commands.specs.Configuring.{EndsConfiguration, IsSaid, IsTaken};
 
 use crate::endings::Ending;
-use admin_text::{Configuration, read_configuration};
-use peers_devices::{Faults, read_to_end};
+use admin_text::{Configuration, ConfigurationError, Refusal, read_configuration};
+use peers_devices::{Faults, read_to_end, write_all};
 use std::alloc::Global;
 use std::io::{Read, Write};
 
-/// Reads a configuration, and ends with `Done` if a node can be run with it. It opens nothing, and writes only to `errors`: the line
-/// that says why a configuration is refused.
-#[tactic(auto, using(crate::proofs::ConfigurationEndings::refusal_said))]
+/// Reads a configuration, and ends with `Done` if a node can be run with it. It opens nothing, and writes only to `errors`: the lines
+/// that say why a configuration is refused.
 pub fn check_configuration<R: Read + Faults, E: Write + Faults>(
     alloc: Global,
     input: &mut R,
     errors: &mut E,
 ) -> Ending
     ensures ends { EndsConfiguration result }
-    ensures said { result ≢ Ending.Device → Appends (E.contents errors.old) (E.contents errors.new) (line_of result) }
+    ensures said { IsSaid (R.remaining input.old) (E.contents errors.old) (E.contents errors.new) result }
 {
-    match configuration_of(alloc, input) {
+    match configuration_of(alloc, input, errors) {
         Ok(configuration) => drop(configuration),
-        Err(ending) => return ending.said(alloc, errors),
+        Err(ending) => return ending,
     }
     Ending::Done
 }
 
-/// Returns the configuration that `input` has, or how the subcommand ends without one.
-pub fn configuration_of<R: Read + Faults>(
+/// Returns the configuration that `input` has, or how the subcommand ends without one. Then `errors` has the lines that say why.
+pub fn configuration_of<R: Read + Faults, E: Write + Faults>(
     alloc: Global,
     input: &mut R,
+    errors: &mut E,
 ) -> Result<Configuration, Ending>
     ensures configuration { IfOk result IsConfiguration }
+    ensures silent { OnOk result (E.contents errors.new ≡ E.contents errors.old) }
+    ensures faultless { OnOk result (IsTaken (R.remaining input.old)) }
     ensures refused { IfErr result (λ ending. (ending ≢ Ending.Done) × EndsConfiguration ending) }
+    ensures said { IfErr result (IsSaid (R.remaining input.old) (E.contents errors.old) (E.contents errors.new)) }
 {
-    let text = read_to_end(alloc, input)?;
-    Ok(read_configuration(alloc, text.as_slice())?)
+    let text = match read_to_end(alloc, input) {
+        Ok(text) => text,
+        Err(error) => return Err(Ending::from(error).said(alloc, errors)),
+    };
+    match read_configuration(alloc, text.as_slice()) {
+        Ok(configuration) => Ok(configuration),
+        Err(ConfigurationError::Refused(refusal)) => Err(refused(errors, &refusal)),
+        Err(ConfigurationError::Memory) => Err(Ending::Memory.said(alloc, errors)),
+    }
+}
+
+/// Writes the lines of a refusal to `errors`.
+fn refused<E: Write + Faults>(errors: &mut E, refusal: &Refusal) -> Ending
+    ensures ends { (result ≡ Ending.Configuration) ⊎ (result ≡ Ending.Device) }
+    ensures said { result ≢ Ending.Device → Appends (E.contents errors.old) (E.contents errors.new) refusal.now.said.items }
+{
+    match write_all(errors, refusal.said.as_slice()) {
+        Ok(()) => Ending::Configuration,
+        Err(_) => Ending::Device,
+    }
 }

@@ -1,10 +1,9 @@
 //! How a subcommand ends.
 ghost use Rattle.std.specs.Prelude.{◌≡◌, ◌≢◌, ◌⊎◌, IfOk, string_bytes};
 ghost use Rattle.std.specs.Io.KnownBytes.{Appends};
-ghost use Rattle.text_commands.specs.Endings.{IsEarly, line_of, of_batch, of_configuration, of_input, of_known, of_roster, of_scene, status_of};
+ghost use Rattle.text_commands.specs.Endings.{IsEarly, line_of, of_batch, of_input, of_known, of_roster, of_scene, status_of};
 ghost use Rattle.text_commands.specs.declared.endings.Ending.TheVariants as endings;
 
-use admin_text::ConfigurationError;
 use known_state::KnownError;
 use learner::Fault;
 use node_text::SceneError;
@@ -23,8 +22,8 @@ pub enum Ending {
     Line(usize),
     /// No line is refused, but the scene lacks what the subcommand needs, or asks for what it can't do: `scene: refused`.
     Scene,
-    /// The configuration lacks a line for the node's name, for the address at which it listens, or for a table:
-    /// `configuration: refused`.
+    /// A line of the configuration is refused, or lacks. The writer for errors has the lines that say why, and that of the ending is
+    /// empty.
     Configuration,
     /// The stream has this fault: `fault` and its name.
     Stream(Fault),
@@ -95,10 +94,9 @@ impl Ending {
         ensures { IfOk result (λ line. string_bytes line ≡ line_of self) }
     {
         match self {
-            Ending::Done | Ending::NotShortest => Ok(String::new(alloc)),
+            Ending::Done | Ending::Configuration | Ending::NotShortest => Ok(String::new(alloc)),
             Ending::Line(number) => format!(in alloc; "line {number}: refused\n"),
             Ending::Scene => String::from_str(alloc, "scene: refused\n"),
-            Ending::Configuration => String::from_str(alloc, "configuration: refused\n"),
             Ending::Stream(fault) => {
                 let name = fault.name();
                 format!(in alloc; "fault {name}\n")
@@ -146,18 +144,6 @@ impl From<SceneError> for Ending {
             SceneError::Line(number) => Ending::Line(number),
             SceneError::Scene => Ending::Scene,
             SceneError::Memory => Ending::Memory,
-        }
-    }
-}
-
-impl From<ConfigurationError> for Ending {
-    ghost from_gives = { λ error ending. ending ≡ of_configuration error };
-
-    fn from(error: ConfigurationError) -> Ending {
-        match error {
-            ConfigurationError::Line(number) => Ending::Line(number),
-            ConfigurationError::Configuration => Ending::Configuration,
-            ConfigurationError::Memory => Ending::Memory,
         }
     }
 }

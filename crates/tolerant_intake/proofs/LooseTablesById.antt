@@ -1,5 +1,5 @@
 -- Tables outside the profile in a map by id.
-use Rattle.std.proofs.Common.{◌≡◌, ℕ, Bool, true, false, not, ◌||◌, cond, eqb, List, [], ◌∷◌, Option, Some, None, refl, sym, ap, subst, ◌∙◌}
+use Rattle.std.proofs.Common.{◌≡◌, ℕ, Bool, true, false, not, ◌||◌, cond, eqb, List, [], ◌∷◌, Option, refl, sym, ap, subst, ◌∙◌}
 use Rattle.std.specs.Prelude.{filter}
 use Rattle.std.specs.List.{AllByRecursion}
 use Rattle.std.specs.List.Sorted.{IsStrictlySortedBy}
@@ -14,10 +14,10 @@ use Rattle.peers_msg.specs.Received.{AreDistinct}
 use Rattle.peers_msg.specs.ReceivedIndex.{id_named, is_id}
 use Rattle.peers_msg.proofs.MapsById.{tested}
 use Rattle.peers_msg.proofs.TablesByIdAndName.{same_at}
-use Rattle.tolerant_intake.specs.Sifting.{stays}
+use Rattle.tolerant_intake.specs.Tolerance.{outlasts}
 
 module _ {X : Type 0} where
-  all_other : (id : ℕ) (ls : List (ℕ × X)) → AllByRecursion (λ other. nat_cmp id other ≡ Less) (keys_of ls) → filter (λ l. not (eqb l.0 id)) ls ≡ ls
+  pub all_other : (id : ℕ) (ls : List (ℕ × X)) → AllByRecursion (λ other. nat_cmp id other ≡ Less) (keys_of ls) → filter (λ l. not (eqb l.0 id)) ls ≡ ls
   all_other id [] above = refl
   all_other id (l ∷ ls) above =
       let other : eqb l.0 id ≡ false = sym (tested id l.0) ∙ ap is_eq above.0 in
@@ -33,11 +33,11 @@ module _ {X : Type 0} where
       at true e rest = rw (tested id l.0, e) (sym (all_other id ls (subst (λ (i : ℕ). AllByRecursion (λ other. nat_cmp i other ≡ Less) (keys_of ls)) (eqb-true l.0 id e) rise.0)))
       at false e rest = rw (tested id l.0, e) (ap (λ (xs : List (ℕ × X)). l ∷ xs) rest)
 
-  filter_same : (p q : ℕ → Bool) (ls : List (ℕ × X)) → ((id : ℕ) → p id ≡ q id) → filter (λ l. p l.0) ls ≡ filter (λ l. q l.0) ls
+  pub filter_same : (p q : ℕ → Bool) (ls : List (ℕ × X)) → ((id : ℕ) → p id ≡ q id) → filter (λ l. p l.0) ls ≡ filter (λ l. q l.0) ls
   filter_same p q [] same = refl
   filter_same p q (l ∷ ls) same = rw (same l.0) (ap (λ (rest : List (ℕ × X)). cond (q l.0) (l ∷ rest) rest) (filter_same p q ls same))
 
-  filter_both : (p q : ℕ → Bool) (ls : List (ℕ × X)) → filter (λ l. not (q l.0)) (filter (λ l. not (p l.0)) ls) ≡ filter (λ l. not (p l.0 || q l.0)) ls
+  pub filter_both : (p q : ℕ → Bool) (ls : List (ℕ × X)) → filter (λ l. not (q l.0)) (filter (λ l. not (p l.0)) ls) ≡ filter (λ l. not (p l.0 || q l.0)) ls
   filter_both p q [] = refl
   filter_both p q (l ∷ ls) = at (p l.0) refl (filter_both p q ls)
     where
@@ -46,21 +46,9 @@ module _ {X : Type 0} where
       at true e rest = rw e rest
       at false e rest = rw e (ap (λ (ms : List (ℕ × X)). cond (not (q l.0)) (l ∷ ms) ms) rest)
 
-  -- What is left after a definition: all but the table of its id, and that of the id that stands for its name.
-  module _ (new : Definition) (ds : List Definition) (distinct : AreDistinct ds) (own : ℕ) (is : own ≡ new.id) (ls : List (ℕ × X)) where
-    stays_by : (named : Option ℕ) → id_named ds new.name ≡ named → (id : ℕ) → not (eqb id own || is_id named id) ≡ stays new id (table_at ds id)
-    stays_by named e id =
-        ap (λ (i : ℕ). not (eqb id i || is_id named id)) is
-        ∙ ap (λ (b : Bool). not (eqb id new.id || b)) (sym (same_at ds new.name id distinct ∙ ap (λ (o : Option ℕ). is_id o id) e))
-
-    or_none : (b : Bool) → not b ≡ not (b || false)
-    or_none true = refl
-    or_none false = refl
-
-    pub one_gone : id_named ds new.name ≡ None → filter (λ l. not (eqb l.0 own)) ls ≡ filter (λ l. stays new l.0 (table_at ds l.0)) ls
-    one_gone e = filter_same (λ id. not (eqb id own)) (λ id. stays new id (table_at ds id)) ls (λ id. or_none (eqb id own) ∙ stays_by None e id)
-
-    pub two_gone : (other : ℕ) → id_named ds new.name ≡ Some other → filter (λ l. not (eqb l.0 other)) (filter (λ l. not (eqb l.0 own)) ls) ≡ filter (λ l. stays new l.0 (table_at ds l.0)) ls
-    two_gone other e =
-        filter_both (λ id. eqb id own) (λ id. eqb id other) ls
-        ∙ filter_same (λ id. not (eqb id own || eqb id other)) (λ id. stays new id (table_at ds id)) ls (stays_by (Some other) e)
+-- a table is left after a definition unless it has its id, or the id that stands for its name
+pub outlasts_by : (new : Definition) (ds : List Definition) → AreDistinct ds → (own : ℕ) → own ≡ new.id → (named : Option ℕ) → id_named ds new.name ≡ named → (id : ℕ)
+    → not (eqb id own || is_id named id) ≡ outlasts new id (table_at ds id)
+outlasts_by new ds distinct own is named e id =
+    ap (λ (i : ℕ). not (eqb id i || is_id named id)) is
+    ∙ ap (λ (b : Bool). not (eqb id new.id || b)) (sym (same_at ds new.name id distinct ∙ ap (λ (o : Option ℕ). is_id o id) e))

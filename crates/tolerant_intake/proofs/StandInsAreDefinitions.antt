@@ -13,13 +13,13 @@ use Rattle.tolerant_intake.specs.StandIns.{has_short_keys, other_length, name_ty
 pub in_order : (types : List (DataType × Option ℕ)) → in_rising_id (name_type_of types) ≡ name_type_of types
 in_order types = elim (cases_Bool (has_name_type types)) [ inl named ↦ rw named refl | inr none ↦ rw none refl ]
 
-pub length_fits : (roster : List Definition) (name : List ℕ) → fits_length kinds.String (other_length roster name) ≡ true
+length_fits : (roster : List Definition) (name : List ℕ) → fits_length kinds.String (other_length roster name) ≡ true
 length_fits roster name = elim (cases_Bool (has_short_keys roster name)) [ inl short ↦ rw short refl | inr other ↦ rw other refl ]
 
-pub types_have_periods : (types : List (DataType × Option ℕ)) → list_all has_its_period (name_type_of types) ≡ true
+types_have_periods : (types : List (DataType × Option ℕ)) → list_all has_its_period (name_type_of types) ≡ true
 types_have_periods types = elim (cases_Bool (has_name_type types)) [ inl named ↦ rw named refl | inr none ↦ rw none refl ]
 
-pub none_repeats : (types : List (DataType × Option ℕ)) → repeats (name_type_of types) ≡ false
+none_repeats : (types : List (DataType × Option ℕ)) → repeats (name_type_of types) ≡ false
 none_repeats types = elim (cases_Bool (has_name_type types)) [ inl named ↦ rw named refl | inr none ↦ rw none refl ]
 
 pub no_fault : (roster : List Definition) (id : ℕ) (name : List ℕ) (types : List (DataType × Option ℕ)) → is_id id ≡ true → is_name name ≡ true

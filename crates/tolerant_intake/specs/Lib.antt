@@ -1,10 +1,8 @@
 pub mod Counts
 pub mod Loose
 pub mod StandIns
-pub mod Sifting
-pub mod Passages
-pub mod Sifts
-pub mod Changes
-pub mod Counting
-pub mod Taking
-pub mod Sound
+pub mod Tolerance
+pub mod Policy
+pub mod Reading
+pub mod Planning
+pub mod Agreement

@@ -46,10 +46,9 @@ known_types d = types_stored all_types d.bits
 
 -- ---- updates
 
--- what is read of an update: its number and its life, if they are given, its name field, and the bytes that follow it
+-- what is read of an update: its number, if it is given, its name field, and the bytes that follow it
 pub record LooseUpdate : Type 0 where
   pub number : Option ℕ
-  pub life : Option ℕ
   pub name : NameField
   pub rest : List ℕ
 
@@ -102,4 +101,4 @@ loose_update_at kind key_length types numbered timed bytes = do
   values ← key_after kind key_length life.1
   end ← values_after types values
   name ← name_at (has_name_type types) end
-  Ok (record { number = number.0; life = life.0; name = name.0; rest = name.1 })
+  Ok (record { number = number.0; name = name.0; rest = name.1 })

@@ -4,14 +4,12 @@ use Rattle.std.specs.List.{list_any}
 use Rattle.table_types.specs.declared.data_type.DataType.{DataType}
 use Rattle.table_types.specs.declared.data_type.DataType.TheVariants.{ServerKey}
 use Rattle.table_types.specs.declared.key.KeyKind.TheVariants as kinds
-use Rattle.table_types.specs.declared.key.Key.TheVariants as keys
 use Rattle.table_types.specs.Tables.{Definition}
 use Rattle.table_types.specs.Rosters.{is_same_name}
-use Rattle.peers_msg.specs.Messages.{UpdateFields}
 use Rattle.tolerant_intake.specs.declared.loose_table.LooseTable.{LooseTable}
 use Rattle.tolerant_intake.specs.declared.passed_over.Cause.{Cause}
 use Rattle.tolerant_intake.specs.declared.passed_over.Cause.TheVariants as causes
-use Rattle.tolerant_intake.specs.Loose.{LooseDefinition, LooseUpdate, has_name_type, known_types}
+use Rattle.tolerant_intake.specs.Loose.{LooseDefinition, has_name_type, known_types}
 
 -- the roster has a table of this name whose keys have the length 1
 abbrev pub has_short_keys : List Definition → List ℕ → Bool
@@ -37,7 +35,3 @@ loose_table d = record { kind = d.kind; key_length = d.key_length; types = known
 -- a data type from 20 up, or another thing outside the profile
 abbrev pub cause_of : LooseDefinition → Cause
 cause_of d = if nat_le (2 ^ 20) d.bits then causes.DataType else causes.Definition
-
--- the update of a stand-in: number, life and name field as read, the empty key, and no values
-abbrev pub stood_in : LooseUpdate → UpdateFields
-stood_in u = record { number = u.number; life = u.life; key = keys.Str []; values = []; name = u.name }

@@ -1,28 +1,22 @@
-//! The tolerant intake of a node that stays beside HAProxy: a sieve before a strict session, which turns what the session
-//! would end at into what it reads.
+//! The reader of what a peer sends. A strict one reads what the intake of a learner takes. A tolerant one, for a node that
+//! stays beside HAProxy, passes over some messages at which that intake stops.
 #![tactic(auto)]
 
-mod change;
-mod counted_update;
-mod definitions;
 mod laws;
 mod loose_definition;
 mod loose_table;
 mod loose_update;
-mod making;
 mod passed_over;
+mod plan;
 mod planning;
+mod reader;
 #[cfg(test)]
 mod scenarios;
-mod sieve;
-mod sieve_error;
-mod strict;
-mod updates;
+mod tolerance;
 
 pub use laws::{
-    agrees, any_cutting, names_arrive, no_such_fault, stand_ins_are_others, stand_ins_stay,
-    what_goes_out_is_taken,
+    agrees, always_an_answer, any_cutting, due_ids_change_nothing, more_bytes_change_nothing,
+    names_arrive, one_answer, stand_ins_are_others, stand_ins_stay,
 };
 pub use passed_over::PassedOver;
-pub use sieve::Sieve;
-pub use sieve_error::SieveError;
+pub use reader::Reader;

@@ -1,10 +1,15 @@
 //! Tables outside the profile.
 
-ghost use Rattle.std.specs.Prelude.{◌≡◌, ◌==◌, not, filter, IfOk};
+ghost use Rattle.std.specs.Prelude.{◌≡◌, ◌==◌, ◌||◌, not, ℕ, List, filter, IfOk};
+ghost use Rattle.std.specs.BTreeMap.{insert_entry, is_at};
+ghost use Rattle.std.specs.List.Sorted.{IsStrictlySortedBy};
+ghost use Rattle.std.specs.Map.{keys_of, lookup};
+ghost use Rattle.std.specs.Ordering.{nat_cmp};
 ghost use Rattle.table_types.specs.DataTypes.{all_types};
-ghost use Rattle.table_types.specs.Rosters.{table_at};
 ghost use Rattle.tolerant_intake.specs.Loose.{types_stored};
-ghost use Rattle.tolerant_intake.specs.Sifting.{stays};
+ghost use Rattle.peers_msg.specs.ReceivedIndex.{is_id};
+ghost use Rattle.tolerant_intake.specs.declared.loose_table.LooseTable.{LooseTable};
+ghost use Rattle.tolerant_intake.specs.Tolerance.{outlasting};
 
 use peers_msg::Received;
 use std::alloc::Global;
@@ -32,17 +37,50 @@ fn remove(tables: &mut BTreeMap<u64, LooseTable>, id: u64)
     tables.remove(&id);
 }
 
-/// Removes the tables that a definition replaces, given what was received before it: at most two.
-pub(crate) fn keep_staying(
-    tables: &mut BTreeMap<u64, LooseTable>,
-    new: &TableDef,
-    received: &Received,
-)
-    ensures { tables.new.entries ≡ filter (λ l. stays new.now l.0 (table_at received.now.tables l.0)) tables.old.entries }
+/// Returns the ids of the tables that a definition replaces, given what was received before it: its own, and the one that
+/// stands for its name.
+pub(crate) fn replaced_ids(new: &TableDef, received: &Received) -> (u64, Option<u64>)
+    ensures own { result.0 ≡ new.now.id }
+    ensures both { (ls : List (ℕ × LooseTable)) → filter (λ l. not (l.0 == result.0 || is_id result.1 l.0)) ls ≡ outlasting new.now received.now.tables ls }
 {
-    remove(tables, new.id());
-    if let Some(named) = received.named(new.name()) {
-        remove(tables, named.id());
+    match received.named(new.name()) {
+        Some(named) => (new.id(), Some(named.id())),
+        None => (new.id(), None),
+    }
+}
+
+/// Removes the tables of these ids.
+pub(crate) fn remove_replaced(tables: &mut BTreeMap<u64, LooseTable>, ids: (u64, Option<u64>))
+    ensures { tables.new.entries ≡ filter (λ l. not (l.0 == ids.0 || is_id ids.1 l.0)) tables.old.entries }
+{
+    remove(tables, ids.0);
+    if let Some(named) = ids.1 {
+        remove(tables, named);
+    }
+}
+
+/// Removes the table of the second id, unless that is the first.
+pub(crate) fn remove_other(tables: &mut BTreeMap<u64, LooseTable>, ids: (u64, Option<u64>))
+    ensures { tables.new.entries ≡ filter (λ l. l.0 == ids.0 || not (is_id ids.1 l.0)) tables.old.entries }
+{
+    let Some(named) = ids.1 else {
+        return;
+    };
+    if named != ids.0 {
+        remove(tables, named);
+    }
+}
+
+/// Puts back what stood for an id before it was inserted.
+pub(crate) fn put_back(tables: &mut BTreeMap<u64, LooseTable>, id: u64, before: Option<LooseTable>)
+    ensures { (ls : List (ℕ × LooseTable)) (table : LooseTable) → IsStrictlySortedBy nat_cmp (keys_of ls) → before ≡ lookup (is_at (nat_cmp id)) ls →
+        tables.old.entries ≡ insert_entry nat_cmp ls id table → tables.new.entries ≡ ls }
+{
+    match before {
+        Some(table) => {
+            let _ = tables.insert(id, table);
+        }
+        None => remove(tables, id),
     }
 }
 

@@ -12,8 +12,6 @@ use table_types::{DataType, Shape};
 #[derive(Clone, Copy)]
 pub(crate) struct LooseUpdateRef<'a> {
     pub number: Option<u32>,
-    /// In milliseconds.
-    pub life: Option<u32>,
     pub name: NameFieldRef<'a>,
     /// The bytes after the name field.
     pub rest: &'a [u8],
@@ -101,18 +99,13 @@ pub(crate) fn loose_update_at<'a>(
     timed: bool,
     bytes: &'a [u8],
 ) -> Result<LooseUpdateRef<'a>, Breach>
-    ensures read { Reads (λ u. record { number = u.number; life = u.life; name = owned_name u.name; rest = u.rest.now }) result (loose_update_at kind key_length types.now numbered timed bytes.now) }
+    ensures read { Reads (λ u. record { number = u.number; name = owned_name u.name; rest = u.rest.now }) result (loose_update_at kind key_length types.now numbered timed bytes.now) }
     ensures named { IfOk result (λ u. is_named (owned_name u.name) ≡ true) }
 {
     let (number, rest) = optional_at(numbered, bytes)?;
-    let (life, rest) = optional_at(timed, rest)?;
+    let (_life, rest) = optional_at(timed, rest)?;
     let rest = key_after(kind, key_length, rest)?;
     let rest = values_after(types, rest)?;
     let (name, rest) = name_at(has_name_type(types), rest)?;
-    Ok(LooseUpdateRef {
-        number,
-        life,
-        name,
-        rest,
-    })
+    Ok(LooseUpdateRef { number, name, rest })
 }

@@ -1,7 +1,7 @@
 //! What was passed over, and how often.
 
 ghost use Rattle.std.specs.Prelude.{◌≡◌};
-ghost use Rattle.tolerant_intake.specs.Counts.{more, counted};
+ghost use Rattle.tolerant_intake.specs.Counts.{more, none_passed, counted};
 
 /// Why something that a peer sent is passed over (profile).
 #[derive(Clone, Copy, Debug, PartialEq, Eq)]
@@ -37,6 +37,18 @@ fn more(count: u64) -> u64
 }
 
 impl PassedOver {
+    /// Returns the counts before anything was passed over.
+    pub fn none() -> PassedOver
+        ensures { result ≡ none_passed }
+    {
+        PassedOver {
+            definition: 0,
+            value: 0,
+            slot: 0,
+            data_type: 0,
+        }
+    }
+
     /// Returns the counts with one more of `cause`.
     pub(crate) fn counted(self, cause: Cause) -> PassedOver
         ensures { result ≡ counted cause self }

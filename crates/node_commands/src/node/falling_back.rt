@@ -34,7 +34,9 @@ fn next_session(fell_back: bool, left: bool, fallback: Option<Session>) -> Optio
 
 impl Node {
     /// Runs the session as `meet` does. If the node has another session, and the first one fell back with turns left, returns the node
-    /// that is ready for the connection of that session, and otherwise what is to be printed. Fails as `meet` does.
+    /// that is ready for the connection of that session, and otherwise what is to be printed. Fails as `meet` does. It isn't inlined,
+    /// since its frame is large.
+    #[inline(never)]
     pub fn meet_or_fall_back<H: Wait, R: Read + Faults, W: Write + Faults>(
         self,
         rt: &H,

@@ -4,7 +4,7 @@ ghost use Rattle.std.specs.Prelude.{◌≡◌, ◌≤◌, ◌<◌, ◌+◌, ◌^
 ghost use Rattle.std.specs.Io.KnownBytes.{Appends, Consumes};
 ghost use Rattle.node_commands.specs.Turning.{Plays, Takes, broken_by, closed_by, ending_after, moment_of, turn_at};
 
-use peers_devices::Faults;
+use peers_devices::{Faults, Writes};
 use peers_engine::{AlwaysOpen, EngineError, Outcome, Worker};
 use session_core::{Session, SessionError};
 use std::alloc::Global;
@@ -116,7 +116,8 @@ fn take_turn<H: Wait, R: Read + Faults, W: Write + Faults>(
         × Consumes (R.remaining from.old) (R.remaining from.new) received
         × Appends (W.contents to.old) (W.contents to.new) sent }
 {
-    worker.turn(rt, alloc, from, to, &AlwaysOpen, shards, now)
+    let mut writes = Writes::none();
+    worker.turn(rt, alloc, from, to, &mut writes, &AlwaysOpen, shards, now)
 }
 
 /// Takes the turns of the worker's session, each at the moment that its pace gives it: all that it may take, or fewer if the session

@@ -1,5 +1,5 @@
 use Rattle.std.proofs.Common.{◌≡◌, ℕ, List}
-use Rattle.std.specs.Io.KnownBytes.{Appends}
+use Rattle.peers_devices.specs.Writing.{AreWritten, written}
 use Rattle.session_core.specs.declared.action.Action.{Action}
 use Rattle.session_core.specs.declared.event.Event.{Event}
 use Rattle.session_core.specs.Keeping.{is_staying}
@@ -12,7 +12,7 @@ invariant-loop-action g l = record {
   done : (answers : List (Event × List Action)) × (out : List ℕ)
       × Acts (worker l.fn.session l.fn.seat l.context.number l.context.moment) l.yielded answers out (worker l.session l.seat l.context.number l.context.moment)
       × (l.given.items ≡ asked answers)
-      × Appends (g.W.Write.contents l.fn.output) (g.W.Write.contents l.output) out;
+      × AreWritten (written (g.W.Write.contents l.fn.output) l.fn.writes) (written (g.W.Write.contents l.output) l.writes) out;
   seat : l.seat.number ≡ l.fn.seat.number;
   manner : is_staying l.session.manner ≡ is_staying l.fn.session.manner;
 }

@@ -1,5 +1,8 @@
-use Rattle.tolerant_intake.proofs.StandInsAreOthers.{none_has_shape}
+use Rattle.tolerant_intake.proofs.StandInsAreNoLocalTables.{no_local_stand_in, stands_apart}
 use Rattle.tolerant_intake.proofs.laws.stand_ins_are_others.Goals as goal
 
-pub returns : goal.returns
-returns c = none_has_shape
+pub returns-clause-shape : goal.returns-clause-shape
+returns-clause-shape c = no_local_stand_in
+
+pub returns-clause-defined : goal.returns-clause-defined
+returns-clause-defined c = stands_apart

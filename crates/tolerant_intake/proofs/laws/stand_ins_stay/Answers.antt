@@ -1,14 +1,14 @@
-use Rattle.tolerant_intake.proofs.StandInsStay.{sent_sound, stand_in_sound, selected_stood}
+use Rattle.tolerant_intake.proofs.StandInsStay.{reads_apart, fed_apart, none_due}
 use Rattle.tolerant_intake.proofs.laws.stand_ins_stay.Goals as goal
 
 pub returns-clause-begun : goal.returns-clause-begun
-returns-clause-begun c = λ roster. (tt, tt)
+returns-clause-begun c = λ roster. tt
 
-pub returns-clause-sent : goal.returns-clause-sent
-returns-clause-sent c = sent_sound
+pub returns-clause-fed : goal.returns-clause-fed
+returns-clause-fed c = fed_apart
 
-pub returns-clause-stand_in : goal.returns-clause-stand_in
-returns-clause-stand_in c = stand_in_sound
+pub returns-clause-reads : goal.returns-clause-reads
+returns-clause-reads c = reads_apart
 
-pub returns-clause-selected : goal.returns-clause-selected
-returns-clause-selected c = selected_stood
+pub returns-clause-acks : goal.returns-clause-acks
+returns-clause-acks c = none_due

@@ -1,0 +1,91 @@
+-- What is wrong with a configuration, and how it is said (profile).
+use Rattle.std.specs.Prelude.{◌≡◌, ◌⊎◌, ◌++◌, ◌-◌, ◌==◌, ◌&&◌, ℕ, Bool, true, not, List, [], ◌∷◌, Option, Some, None, codes, filter, is_none, length, map, nat_le, take}
+use Rattle.std.specs.Fmt.{decimal}
+use Rattle.std.specs.List.{list_all}
+use Rattle.admin_text.specs.Before.{line_of}
+use Rattle.admin_text.specs.LineFaults.{IsJudged}
+use Rattle.admin_text.specs.Statements.{Said, statements_of}
+use Rattle.admin_text.specs.declared.line_kinds.LineKind.{LineKind}
+use Rattle.admin_text.specs.declared.line_kinds.LineKind.TheVariants as kinds
+use Rattle.admin_text.specs.declared.faults.Fault.{Fault}
+use Rattle.admin_text.specs.declared.faults.FaultyLine.{FaultyLine}
+use Rattle.admin_text.specs.declared.refusals.Refusal.{Refusal}
+
+-- ---- which lines are refused
+
+-- what is listed of a line
+abbrev pub listed : ℕ → Option Fault → List FaultyLine
+listed number None = []
+listed number (Some fault) = record { number = number; fault = fault } ∷ []
+
+-- the faults of these lines in order, behind the lines before: one of each line that is refused
+abbrev pub AreFaultsOf : List Said → List Said → List FaultyLine → Type 0
+AreFaultsOf before [] found = found ≡ []
+AreFaultsOf before (line ∷ lines) found =
+    (fault : Option Fault)
+    × (more : List FaultyLine)
+    × IsJudged before line.1 fault
+    × (found ≡ listed line.0 fault ++ more)
+    × AreFaultsOf (before ++ line ∷ []) lines more
+
+-- the faults of all these lines, or 20 of the first ones
+abbrev pub AreFaults : List Said → List FaultyLine → Type 0
+AreFaults lines found =
+    (read unread : List Said) × (lines ≡ read ++ unread) × AreFaultsOf [] read found × ((unread ≡ []) ⊎ (length found ≡ 20))
+
+-- ---- which lines lack
+
+-- none of the lines is of this kind
+abbrev pub is_lacking : List Said → LineKind → Bool
+is_lacking lines kind = is_none (line_of kind lines)
+
+-- the lines that lack: one with the node's name, one with where it listens, and one with a table
+abbrev pub lacking_of : List Said → List LineKind
+lacking_of lines = filter (is_lacking lines) (kinds.Node ∷ kinds.Listen ∷ kinds.Table ∷ [])
+
+-- ---- refusals
+
+abbrev pub is_printable : ℕ → Bool
+is_printable byte = nat_le 32 byte && nat_le byte 126
+
+-- what begins the line of a fault, and that of a line that lacks
+abbrev pub head_of : FaultyLine → List ℕ
+head_of line = codes "line " ++ (decimal line.number ++ codes ": ")
+
+abbrev pub lacking_head : LineKind → List ℕ
+lacking_head kind = codes "configuration: "
+
+abbrev pub heads_of : List FaultyLine → List LineKind → List (List ℕ)
+heads_of found lacking = map head_of found ++ map lacking_head lacking
+
+-- printable bytes come behind what was there
+abbrev pub AddsPrintable : List ℕ → List ℕ → Type 0
+AddsPrintable before after = (sentence : List ℕ) × (after ≡ before ++ sentence) × (list_all is_printable sentence ≡ true)
+
+-- a line with this head comes behind what was there
+abbrev pub Adds : List ℕ → List ℕ → List ℕ → Type 0
+Adds head before after =
+    (sentence : List ℕ) × (after ≡ before ++ (head ++ (sentence ++ 10 ∷ []))) × (list_all is_printable sentence ≡ true)
+
+-- a line for each of these heads: behind it stand bytes 32 to 126, and LF
+abbrev pub AreLines : List (List ℕ) → List ℕ → Type 0
+AreLines [] text = text ≡ []
+AreLines (head ∷ heads) text =
+    (sentence more : List ℕ)
+    × (text ≡ head ++ (sentence ++ 10 ∷ more))
+    × (list_all is_printable sentence ≡ true)
+    × AreLines heads more
+
+-- what the lines lack or have wrong, at most 20 faults with the refused lines first, and a line that says each
+pub record IsRefusalOf (lines : List Said) (r : Refusal) : Type 0 where
+  pub faults : AreFaults lines r.faults.items
+  pub lacking : r.lacking.items ≡ take (20 - length r.faults.items) (lacking_of lines)
+  pub said : AreLines (heads_of r.faults.items r.lacking.items) r.said.items
+
+-- some line is refused, or lacks
+abbrev pub names_fault : Refusal → Bool
+names_fault r = not (length r.faults.items == 0 && length r.lacking.items == 0)
+
+-- no line is refused, and none lacks
+abbrev pub IsFaultless : List Said → Type 0
+IsFaultless lines = AreFaults lines [] × (lacking_of lines ≡ [])

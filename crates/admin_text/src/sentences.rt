@@ -1,0 +1,205 @@
+//! Sentences that say what is wrong with a configuration, and what is wanted.
+
+use crate::faults::{Fault, NameFault, TableFault, TypeFault};
+use crate::line_kinds::LineKind;
+use node_text::is_text;
+use std::alloc::{AllocError, Global};
+use table_types::{DataType, KeyKind};
+
+/// The most bytes of a word that are printed.
+const MOST_SHOWN: usize = 64;
+
+/// Returns what lacks without a line of `kind`.
+pub(crate) fn lacking_sentence(kind: LineKind) -> &'static str {
+    match kind {
+        LineKind::Node => "no line \"node NAME\" gives the name by which peers know the node",
+        LineKind::Listen =>
+            "no line \"listen ADDRESS\" says where the node takes connections of peers",
+        _ => "no line \"table ID NAME KIND LENGTH EXPIRE TYPES..\" gives a table",
+    }
+}
+
+/// Returns the sentence that says the fault of the line with these words.
+pub(crate) fn sentence(alloc: Global, words: &[&[u8]], fault: Fault) -> Result<String, AllocError> {
+    let subject = subject(alloc, words)?;
+    let about = subject.as_str();
+    match fault {
+        Fault::Unknown => format!(in alloc;
+            "{about}: a line begins with node, listen, admin, section, peer, table, size or nopurge"
+        ),
+        Fault::Form(kind) => {
+            let form = kind.form();
+            format!(in alloc; "{about}: the line is {form}, with neither more words nor fewer")
+        }
+        Fault::Repeated(line) => format!(in alloc;
+            "{about}: line {line} says this already, and only one line may"
+        ),
+        Fault::Name(place, fault) => name_sentence(alloc, about, shown(words, place), fault),
+        Fault::Taken(line) => format!(in alloc;
+            "{about}: line {line} has this name already, and the node and its peers have distinct names"
+        ),
+        Fault::Peers => format!(in alloc; "{about}: a node has at most 15 peers"),
+        Fault::Address(place) => {
+            let word = shown(words, place);
+            format!(in alloc;
+                "{about}: an address is A.B.C.D:PORT or [IPv6]:PORT with a port from 1 to 65535, not {word}"
+            )
+        }
+        Fault::Local => {
+            let word = shown(words, 1);
+            format!(in alloc; "{about}: the address is in 127.0.0.0/8 or is [::1], not {word}")
+        }
+        Fault::NoTable => {
+            let id = shown(words, 1);
+            format!(in alloc; "{about}: no line \"table {id} ..\" stands above")
+        }
+        Fault::Rows => {
+            let word = shown(words, 2);
+            format!(in alloc;
+                "{about}: the number of rows is 1 to 1000000 without leading zeros, not {word}"
+            )
+        }
+        Fault::Table(fault) => table_sentence(alloc, about, words, fault),
+    }
+}
+
+/// Returns the sentence about a word that isn't a name.
+fn name_sentence(
+    alloc: Global,
+    about: &str,
+    word: &str,
+    fault: NameFault,
+) -> Result<String, AllocError> {
+    match fault {
+        NameFault::Dash => format!(in alloc; "{about}: a name is a word other than {word}"),
+        NameFault::Bytes => format!(in alloc;
+            "{about}: a name has only letters, digits and signs of ASCII, bytes 33 to 126"
+        ),
+        NameFault::Long(length) => format!(in alloc;
+            "{about}: a name has at most 255 bytes, not {length}"
+        ),
+    }
+}
+
+/// Returns the sentence about a line of a table.
+fn table_sentence(
+    alloc: Global,
+    about: &str,
+    words: &[&[u8]],
+    fault: TableFault,
+) -> Result<String, AllocError> {
+    match fault {
+        TableFault::Many => format!(in alloc; "{about}: a node has at most 64 tables"),
+        TableFault::Id => {
+            let id = shown(words, 1);
+            format!(in alloc;
+                "{about}: the id is a number from 1 to 2147483647 without leading zeros, not {id}"
+            )
+        }
+        TableFault::TakenId(line) => {
+            let id = shown(words, 1);
+            format!(in alloc;
+                "{about}: line {line} has the id {id} already, and each table has its own"
+            )
+        }
+        TableFault::TakenName(line) => format!(in alloc;
+            "{about}: line {line} has this name already, and each table has its own"
+        ),
+        TableFault::Keys => {
+            let word = shown(words, 3);
+            format!(in alloc;
+                "{about}: the kind of keys is integer, ipv4, ipv6, string or binary, not {word}"
+            )
+        }
+        TableFault::Length(kind) => length_sentence(alloc, about, kind, shown(words, 4)),
+        TableFault::Expire => {
+            let word = shown(words, 5);
+            format!(in alloc;
+                "{about}: rows expire after a number of milliseconds, 0 (never) to 4294967295 without leading zeros, not {word}"
+            )
+        }
+        TableFault::Stored(place, fault) => type_sentence(alloc, about, shown(words, place), fault),
+    }
+}
+
+/// Returns the sentence about keys of a wrong length.
+fn length_sentence(
+    alloc: Global,
+    about: &str,
+    kind: KeyKind,
+    word: &str,
+) -> Result<String, AllocError> {
+    let name = kind.name();
+    let lengths = match kind {
+        KeyKind::Integer | KeyKind::Ip4 => "length 4",
+        KeyKind::Ip6 => "length 16",
+        KeyKind::String | KeyKind::Binary => "a length of 1 to 8192",
+    };
+    format!(in alloc; "{about}: a key of kind {name} has {lengths}, not {word}")
+}
+
+/// Returns the sentence about a word that isn't a data type that the table may store.
+fn type_sentence(
+    alloc: Global,
+    about: &str,
+    word: &str,
+    fault: TypeFault,
+) -> Result<String, AllocError> {
+    match fault {
+        TypeFault::Unknown => {
+            let names = type_names(alloc)?;
+            let names = names.as_str();
+            format!(in alloc; "{about}: a table stores any of {names}, not {word}")
+        }
+        TypeFault::NoPeriod => format!(in alloc;
+            "{about}: a rate has a period of 1 to 4294967295 ms behind it, as in http_req_rate:10000, not {word}"
+        ),
+        TypeFault::Period => format!(in alloc;
+            "{about}: only a rate has a period, so {word} has to lose what begins with the colon"
+        ),
+        TypeFault::Repeated => format!(in alloc;
+            "{about}: a data type is given once, and {word} gives it again"
+        ),
+    }
+}
+
+/// Returns the names of all data types, in ascending order of id.
+fn type_names(alloc: Global) -> Result<String, AllocError> {
+    let mut names = String::new(alloc);
+    for data_type in DataType::ALL.iter() {
+        if !names.is_empty() {
+            names.push_str(", ")?;
+        }
+        names.push_str(data_type.name())?;
+    }
+    Ok(names)
+}
+
+/// Returns what the line is about: its first word, and which peer or table it says something of.
+fn subject(alloc: Global, words: &[&[u8]]) -> Result<String, AllocError> {
+    let kind = shown(words, 0);
+    let place = match kind {
+        "peer" | "size" | "nopurge" if words.len() > 1 => 1,
+        "table" if words.len() > 2 => 2,
+        _ => return format!(in alloc; "{kind}"),
+    };
+    let name = shown(words, place);
+    format!(in alloc; "{kind} {name}")
+}
+
+/// Returns the word at `place` as it is printed: at most its first 64 bytes, and only if all its bytes are 33 to 126.
+fn shown<'a>(words: &[&'a [u8]], place: usize) -> &'a str {
+    match words.get(place) {
+        Some(word) if is_text(word) => str::from_utf8(beginning(word, MOST_SHOWN)).unwrap_or("?"),
+        _ => "?",
+    }
+}
+
+/// Returns the first `most` bytes of `word`, or all of them if there are fewer.
+fn beginning(word: &[u8], most: usize) -> &[u8] {
+    if word.len() > most {
+        &word[..most]
+    } else {
+        word
+    }
+}

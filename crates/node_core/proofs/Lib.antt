@@ -1,0 +1,4 @@
+pub mod Changed
+pub mod Crosses
+pub mod Rounds
+pub mod Waiting

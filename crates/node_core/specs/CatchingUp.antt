@@ -1,0 +1,145 @@
+-- How a node that has just begun gets all rows: it asks its peers, one at a time.
+use Rattle.std.specs.Prelude.{ℕ, zero, suc, Bool, true, false, not, ◌==◌, ◌&&◌, ◌||◌, nat_le, ◌-◌, List, [], ◌∷◌, Option, None, Some, is_none, option_map, slice_get, if◌then◌else◌}
+use Rattle.std.specs.List.{list_all, list_any}
+use Rattle.node_core.specs.declared.asking.Standing.{Standing}
+use Rattle.node_core.specs.declared.asking.Standing.TheVariants as standings
+use Rattle.node_core.specs.declared.asking.Candidate.{Candidate}
+use Rattle.node_core.specs.declared.asking.Awaited.{Awaited}
+
+-- Whether the node is up to date; the peer that is waited for, since when it has been silent; and how each peer stands.
+pub record AskingState : Type 0 where
+  pub up_to_date : Bool
+  pub awaited : Option Awaited
+  pub peers : List Candidate
+
+-- ---- the next peer
+
+-- a minute has passed since the peer was asked, if it ever was
+abbrev pub is_rested : ℕ → Option ℕ → Bool
+is_rested now None = true
+is_rested now (Some asked) = nat_le 60000 (now - asked)
+
+abbrev pub is_due : Standing → Bool → Bool
+is_due standings.Away rested = false
+is_due standings.Unasked rested = true
+is_due standings.Asked rested = rested
+is_due standings.Partial rested = rested
+
+-- the peer has a session, and wasn't asked on it, or a minute ago
+abbrev pub can_be_asked : ℕ → Candidate → Bool
+can_be_asked now p = is_due p.standing (is_rested now p.asked_at)
+
+-- one peer was never asked, or the other was, and no earlier
+abbrev pub is_no_later : Option ℕ → Option ℕ → Bool
+is_no_later None other = true
+is_no_later (Some one) None = false
+is_no_later (Some one) (Some other) = nat_le one other
+
+-- the peer can be asked, and none of those that can was asked longer ago
+abbrev pub is_first : ℕ → List Candidate → Option Candidate → Bool
+is_first now peers None = false
+is_first now peers (Some p) = can_be_asked now p && list_all (λ q. not (can_be_asked now q) || is_no_later p.asked_at q.asked_at) peers
+
+-- the peer is to be asked now: the node isn't up to date, nobody is waited for, and this peer is first
+abbrev pub is_next : ℕ → ℕ → AskingState → Bool
+is_next peer now a = not a.up_to_date && (is_none a.awaited && is_first now a.peers (slice_get a.peers peer))
+
+-- ---- what becomes of it
+
+-- one of the peers is changed
+abbrev pub changed : (Candidate → Candidate) → ℕ → List Candidate → List Candidate
+changed f peer [] = []
+changed f zero (p ∷ ps) = f p ∷ ps
+changed f (suc peer) (p ∷ ps) = p ∷ changed f peer ps
+
+-- the peer is waited for from now on
+abbrev pub asked : ℕ → ℕ → AskingState → AskingState
+asked peer now a = record a {
+  awaited = Some (record { peer = peer; since = now });
+  peers = changed (λ p. record { standing = standings.Asked; asked_at = Some now }) peer a.peers;
+}
+
+abbrev pub asked_if_next : ℕ → ℕ → AskingState → AskingState
+asked_if_next peer now a = if is_next peer now a then asked peer now a else a
+
+-- who is waited for, unless it is this peer
+abbrev pub unless_it : ℕ → Option Awaited → Option Awaited
+unless_it peer None = None
+unless_it peer (Some w) = if w.peer == peer then None else Some w
+
+-- the peer stands otherwise, and isn't waited for
+abbrev pub stood : Standing → ℕ → AskingState → AskingState
+stood s peer a = record a { awaited = unless_it peer a.awaited; peers = changed (λ p. record p { standing = s }) peer a.peers }
+
+abbrev pub is_asked : Standing → Bool
+is_asked standings.Asked = true
+is_asked standings.Away = false
+is_asked standings.Unasked = false
+is_asked standings.Partial = false
+
+-- the peer was asked on its session, and hasn't answered
+abbrev pub owes : Option Candidate → Bool
+owes None = false
+owes (Some p) = is_asked p.standing
+
+-- a peer that was asked has taught all rows, however late
+abbrev pub finished : ℕ → AskingState → AskingState
+finished peer a = if owes (slice_get a.peers peer) then record a { up_to_date = true; awaited = None } else a
+
+-- a peer that was asked has taught what it has, which isn't all
+abbrev pub partly_finished : ℕ → AskingState → AskingState
+partly_finished peer a = if owes (slice_get a.peers peer) then stood standings.Partial peer a else a
+
+-- a peer has brought a row: it is waited for anew, if it is waited for
+abbrev pub heard_from : ℕ → ℕ → Awaited → Awaited
+heard_from peer now w = if w.peer == peer then record w { since = now } else w
+
+abbrev pub heard : ℕ → ℕ → AskingState → AskingState
+heard peer now a = record a { awaited = option_map (heard_from peer now) a.awaited }
+
+-- ---- by the clock
+
+-- for 5 s neither a row came nor an end
+abbrev pub is_mute : ℕ → Awaited → Bool
+is_mute now w = nat_le 5000 (now - w.since)
+
+abbrev pub unanswered : ℕ → Option Awaited → Option ℕ
+unanswered now None = None
+unanswered now (Some w) = if is_mute now w then Some w.peer else None
+
+abbrev pub still_awaited : ℕ → Option Awaited → Option Awaited
+still_awaited now None = None
+still_awaited now (Some w) = if is_mute now w then None else Some w
+
+-- a peer that is mute isn't waited for
+abbrev pub lapsed : ℕ → AskingState → AskingState
+lapsed now a = record a { awaited = still_awaited now a.awaited }
+
+abbrev pub is_away : Standing → Bool
+is_away standings.Away = true
+is_away standings.Unasked = false
+is_away standings.Asked = false
+is_away standings.Partial = false
+
+abbrev pub is_partial : Standing → Bool
+is_partial standings.Partial = true
+is_partial standings.Away = false
+is_partial standings.Unasked = false
+is_partial standings.Asked = false
+
+-- all peers with a session have answered that they have taught what they have, and there is one
+abbrev pub are_partial : List Candidate → Bool
+are_partial peers = list_any (λ p. is_partial p.standing) peers && list_all (λ p. is_away p.standing || is_partial p.standing) peers
+
+-- nobody has more to teach: all peers with a session have taught what they have, and they are all, or have had 5 s to come
+abbrev pub is_settled : ℕ → AskingState → Bool
+is_settled now a = not a.up_to_date && ((nat_le 5000 now || list_all (λ p. not (is_away p.standing)) a.peers) && are_partial a.peers)
+
+abbrev pub settled : ℕ → AskingState → AskingState
+settled now a = if is_settled now a then record a { up_to_date = true; awaited = None } else a
+
+-- ---- the beginning
+
+-- the peers of a node that begins, of which none has a session
+abbrev pub none_come : List Candidate → Bool
+none_come peers = list_all (λ p. is_away p.standing && is_none p.asked_at) peers

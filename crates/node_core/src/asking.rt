@@ -1,0 +1,363 @@
+//! Whom a node that isn't up to date asks for all rows.
+
+ghost use Rattle.std.specs.Prelude.{◌≡◌, ◌==◌, ◌||◌, not, IfOk, None, Some, replicate, slice_get};
+ghost use Rattle.std.specs.List.{list_all, list_any};
+ghost use Rattle.node_core.specs.declared.asking.Standing.TheVariants as standings;
+ghost use Rattle.node_core.specs.CatchingUp.{are_partial, asked_if_next, can_be_asked, changed, finished, heard, is_asked, is_away, is_first, is_mute, is_next, is_no_later, is_partial, is_rested, is_settled, lapsed, owes, partly_finished, settled, stood, unanswered};
+
+use std::alloc::{AllocError, Global};
+use std::marker::Model;
+
+/// How long a peer that was asked is waited for, from then on or from the last row that it brought, in milliseconds.
+pub const PATIENCE: u64 = 5_000;
+
+/// How long after its start a node waits for sessions with all peers, in milliseconds.
+pub const ALONE: u64 = 5_000;
+
+/// From when a peer is asked to when it can be asked again on the same session, in milliseconds.
+const PAUSE: u64 = 60_000;
+
+/// How a peer stands to being asked.
+#[derive(Clone, Copy, Debug, PartialEq, Eq)]
+pub enum Standing {
+    /// There is no session with it.
+    Away,
+    /// It wasn't asked on its session.
+    Unasked,
+    /// It was asked on its session, and hasn't answered.
+    Asked,
+    /// It was asked on its session, and answered that it taught what it has, which isn't all.
+    Partial,
+}
+
+impl Standing {
+    /// Returns whether there is no session with the peer.
+    fn is_away(self) -> bool
+        ensures { result ≡ is_away self }
+    {
+        matches!(self, Standing::Away)
+    }
+
+    /// Returns whether the peer was asked on its session, and hasn't answered.
+    fn is_asked(self) -> bool
+        ensures { result ≡ is_asked self }
+    {
+        matches!(self, Standing::Asked)
+    }
+
+    /// Returns whether the peer has answered in part.
+    fn is_partial(self) -> bool
+        ensures { result ≡ is_partial self }
+    {
+        matches!(self, Standing::Partial)
+    }
+}
+
+/// A peer that may be asked.
+#[derive(Clone, Copy, Debug)]
+pub struct Candidate {
+    standing: Standing,
+    /// When it was last asked, if it was, in milliseconds since the node began.
+    asked_at: Option<u64>,
+}
+
+/// The peer that is waited for.
+#[derive(Clone, Copy, Debug)]
+pub struct Awaited {
+    /// Its index.
+    peer: usize,
+    /// When it was asked, or last brought a row, in milliseconds since the node began.
+    since: u64,
+}
+
+/// How far a node is with asking its peers for all rows.
+///
+/// It asks one peer at a time, and of those that can be asked the one that was asked longest ago. It waits for a peer until that
+/// ends its resync, loses its session, or has brought no row for `PATIENCE`; an end that comes later counts all the same. A peer
+/// that didn't answer, or only in part, can be asked again after a minute, or on its next session. The node is up to date once a
+/// peer ends its resync as finished, or all that have a session have ended it as partial.
+#[derive(Drop)]
+pub struct Asking {
+    up_to_date: bool,
+    awaited: Option<Awaited>,
+    /// The peers, in the configuration's order.
+    peers: Vec<Candidate>,
+}
+
+impl Model for Asking {
+    ghost use Rattle.node_core.specs.CatchingUp.{AskingState};
+
+    ghost Value = { AskingState };
+
+    ghost view = { λ a. record { up_to_date = a.up_to_date; awaited = a.awaited; peers = a.peers.items } };
+}
+
+/// Returns whether a peer that was last asked then can be asked again.
+fn is_rested(asked_at: Option<u64>, now: u64) -> bool
+    ensures { result ≡ is_rested now asked_at }
+{
+    match asked_at {
+        Some(asked) => now.saturating_sub(asked) >= PAUSE,
+        None => true,
+    }
+}
+
+/// Returns whether a peer that was last asked at `one` was asked no later than one that was at `other`.
+fn is_no_later(one: Option<u64>, other: Option<u64>) -> bool
+    ensures { result ≡ is_no_later one other }
+{
+    match (one, other) {
+        (None, _) => true,
+        (Some(_), None) => false,
+        (Some(one), Some(other)) => one <= other,
+    }
+}
+
+impl Candidate {
+    /// Returns whether the peer can be asked.
+    fn can_be_asked(self, now: u64) -> bool
+        ensures { result ≡ can_be_asked now self }
+    {
+        match self.standing {
+            Standing::Away => false,
+            Standing::Unasked => true,
+            Standing::Asked | Standing::Partial => is_rested(self.asked_at, now),
+        }
+    }
+}
+
+/// Returns whether none of the peers that can be asked was asked longer ago than `one`.
+fn is_first_of(peers: &[Candidate], one: Candidate, now: u64) -> bool
+    ensures { result ≡ list_all (λ q. not (can_be_asked now q) || is_no_later one.asked_at q.asked_at) peers.now }
+{
+    for other in peers {
+        if other.can_be_asked(now) && !is_no_later(one.asked_at, other.asked_at) {
+            return false;
+        }
+    }
+    true
+}
+
+/// Returns whether the peer with this index can be asked, and none of those that can was asked longer ago.
+fn is_first(peers: &[Candidate], peer: usize, now: u64) -> bool
+    ensures { result ≡ is_first now peers.now (slice_get peers.now peer) }
+{
+    match peers.get(peer) {
+        Some(one) => one.can_be_asked(now) && is_first_of(peers, *one, now),
+        None => false,
+    }
+}
+
+/// Returns whether the peer with this index was asked on its session, and hasn't answered.
+fn owes(peers: &[Candidate], peer: usize) -> bool
+    ensures { result ≡ owes (slice_get peers.now peer) }
+{
+    match peers.get(peer) {
+        Some(one) => one.standing.is_asked(),
+        None => false,
+    }
+}
+
+/// Notes how the peer with this index stands.
+fn set_standing(peers: &mut [Candidate], peer: usize, standing: Standing)
+    ensures { peers.new ≡ changed (λ p. record p { standing = standing }) peer peers.old }
+{
+    if let Some(one) = peers.get(peer) {
+        peers[peer] = Candidate { standing, ..*one };
+    }
+}
+
+/// Notes that the peer with this index is asked.
+#[tactic(auto, using(crate::proofs::Changed::constant_changed, crate::proofs::Changed::past_changed))]
+fn set_asked(peers: &mut [Candidate], peer: usize, now: u64)
+    ensures { peers.new ≡ changed (λ p. record { standing = standings.Asked; asked_at = Some now }) peer peers.old }
+{
+    if peer < peers.len() {
+        peers[peer] = Candidate {
+            standing: Standing::Asked,
+            asked_at: Some(now),
+        };
+    }
+}
+
+/// Returns whether all peers that have a session have answered in part, and there is one.
+fn are_partial(peers: &[Candidate]) -> bool
+    ensures { result ≡ are_partial peers.now }
+{
+    any_partial(peers) && all_partial(peers)
+}
+
+/// Returns whether some peer has answered in part.
+fn any_partial(peers: &[Candidate]) -> bool
+    ensures { result ≡ list_any (λ p. is_partial p.standing) peers.now }
+{
+    for peer in peers {
+        if peer.standing.is_partial() {
+            return true;
+        }
+    }
+    false
+}
+
+/// Returns whether all peers that have a session have answered in part.
+fn all_partial(peers: &[Candidate]) -> bool
+    ensures { result ≡ list_all (λ p. is_away p.standing || is_partial p.standing) peers.now }
+{
+    for peer in peers {
+        if !(peer.standing.is_away() || peer.standing.is_partial()) {
+            return false;
+        }
+    }
+    true
+}
+
+/// Returns whether all peers have a session.
+fn are_there(peers: &[Candidate]) -> bool
+    ensures { result ≡ list_all (λ p. not (is_away p.standing)) peers.now }
+{
+    for peer in peers {
+        if peer.standing.is_away() {
+            return false;
+        }
+    }
+    true
+}
+
+impl Awaited {
+    /// Returns whether the peer has brought neither a row nor its end for `PATIENCE`.
+    fn is_mute(self, now: u64) -> bool
+        ensures { result ≡ is_mute now self }
+    {
+        now.saturating_sub(self.since) >= PATIENCE
+    }
+}
+
+impl Asking {
+    /// Returns how a node with `peers` peers begins. Without peers it is up to date at once.
+    pub fn new(alloc: Global, peers: usize) -> Result<Asking, AllocError>
+        ensures up_to_date { IfOk result (λ asking. asking.up_to_date ≡ (peers == 0)) }
+        ensures awaited { IfOk result (λ asking. asking.awaited ≡ None) }
+        ensures peers { IfOk result (λ asking. asking.peers ≡ replicate peers (record { standing = standings.Away; asked_at = None })) }
+    {
+        let away = Candidate {
+            standing: Standing::Away,
+            asked_at: None,
+        };
+        Ok(Asking {
+            up_to_date: peers == 0,
+            awaited: None,
+            peers: vec![in alloc; away; peers]?,
+        })
+    }
+
+    /// Returns whether the node is up to date.
+    pub fn is_up_to_date(&self) -> bool
+        ensures { result ≡ self.now.up_to_date }
+    {
+        self.up_to_date
+    }
+
+    /// Notes that a session with the peer with this index begins.
+    pub fn begin(&mut self, peer: usize)
+        ensures { self.new ≡ stood standings.Unasked peer self.old }
+    {
+        self.stand(peer, Standing::Unasked);
+    }
+
+    /// Notes that the session with the peer with this index is over.
+    pub fn end(&mut self, peer: usize)
+        ensures { self.new ≡ stood standings.Away peer self.old }
+    {
+        self.stand(peer, Standing::Away);
+    }
+
+    /// Notes how the peer with this index stands, and that it isn't waited for.
+    fn stand(&mut self, peer: usize, standing: Standing)
+        ensures { self.new ≡ stood standing peer self.old }
+    {
+        if let Some(awaited) = self.awaited {
+            if awaited.peer == peer {
+                self.awaited = None;
+            }
+        }
+        set_standing(self.peers.as_mut_slice(), peer, standing);
+    }
+
+    /// Returns whether the peer with this index is to be asked now.
+    fn is_next(&self, peer: usize, now: u64) -> bool
+        ensures { result ≡ is_next peer now self.now }
+    {
+        !self.up_to_date && self.awaited.is_none() && is_first(self.peers.as_slice(), peer, now)
+    }
+
+    /// Returns whether the peer with this index is to be asked now, and notes that it is.
+    pub fn ask(&mut self, peer: usize, now: u64) -> bool
+        ensures asks { result ≡ is_next peer now self.old }
+        ensures asked { self.new ≡ asked_if_next peer now self.old }
+    {
+        if !self.is_next(peer, now) {
+            return false;
+        }
+        self.awaited = Some(Awaited { peer, since: now });
+        set_asked(self.peers.as_mut_slice(), peer, now);
+        true
+    }
+
+    /// Notes that the peer with this index has brought a row.
+    pub fn hear(&mut self, peer: usize, now: u64)
+        ensures { self.new ≡ heard peer now self.old }
+    {
+        if let Some(awaited) = self.awaited {
+            if awaited.peer == peer {
+                self.awaited = Some(Awaited { peer, since: now });
+            }
+        }
+    }
+
+    /// Notes that the peer with this index has ended its resync as finished, which counts if it was asked.
+    pub fn finish(&mut self, peer: usize)
+        ensures { self.new ≡ finished peer self.old }
+    {
+        if owes(self.peers.as_slice(), peer) {
+            self.up_to_date = true;
+            self.awaited = None;
+        }
+    }
+
+    /// Notes that the peer with this index has ended its resync as partial, which counts if it was asked.
+    pub fn finish_partly(&mut self, peer: usize)
+        ensures { self.new ≡ partly_finished peer self.old }
+    {
+        if owes(self.peers.as_slice(), peer) {
+            self.stand(peer, Standing::Partial);
+        }
+    }
+
+    /// Ends the wait for a peer that has brought neither a row nor its end for `PATIENCE`, and returns its index.
+    pub fn lapse(&mut self, now: u64) -> Option<usize>
+        ensures peer { result ≡ unanswered now self.old.awaited }
+        ensures lapsed { self.new ≡ lapsed now self.old }
+    {
+        match self.awaited {
+            Some(awaited) if awaited.is_mute(now) => {
+                self.awaited = None;
+                Some(awaited.peer)
+            }
+            _ => None,
+        }
+    }
+
+    /// Takes the node to be up to date if nobody has more to teach. Returns whether it does so now.
+    pub fn settle(&mut self, now: u64) -> bool
+        ensures settles { result ≡ is_settled now self.old }
+        ensures settled { self.new ≡ settled now self.old }
+    {
+        let is_time = now >= ALONE || are_there(self.peers.as_slice());
+        if self.up_to_date || !is_time || !are_partial(self.peers.as_slice()) {
+            return false;
+        }
+        self.up_to_date = true;
+        self.awaited = None;
+        true
+    }
+}

@@ -1,0 +1,35 @@
+//! Laws of a node that asks its peers for all rows, which hold whatever the program does.
+
+ghost use Rattle.std.specs.Prelude.{◌≡◌, ◌≤◌, ◌+◌, ◌*◌, ◌⊎◌, ℕ, false, true, List, None, Some, length};
+ghost use Rattle.std.specs.List.{list_any};
+ghost use Rattle.node_core.specs.declared.asking.Awaited.{Awaited};
+ghost use Rattle.node_core.specs.CatchingUp.{AskingState, is_next, lapsed};
+ghost use Rattle.node_core.specs.AskingRuns.{Answer, CanBeAsked, HasSession, Happening, Asks, Finished, IsAwaited, Passes, Rounds, after, after_all, is_from, is_heard_before, may_end};
+
+/// No two peers are asked at once. While a peer is waited for, no peer is next to be asked; and a peer that is waited for is so
+/// until it ends its resync as partial, loses its session or begins another, or is mute for 5 s, unless some peer ends its resync
+/// as finished or all have taught what they have, after which the node is up to date.
+pub fn one_at_a_time()
+    ensures next { (a : AskingState) (w : Awaited) (peer now : ℕ) → a.awaited ≡ Some w → is_next peer now a ≡ false }
+    ensures waits { (a : AskingState) (w : Awaited) (h : Happening) → a.awaited ≡ Some w → may_end a w h ≡ false → IsAwaited w.peer (after h a) }
+{}
+
+/// A mute peer is waited for 5 s at most: if it was asked and brings no row, then whatever else happens, it isn't waited for once
+/// the time is noted 5 s later.
+pub fn a_mute_peer_holds_nobody_up()
+    ensures { (a : AskingState) (peer asked now : ℕ) (hs : List Happening) → is_next peer asked a ≡ true → list_any (is_from peer) hs ≡ false → asked + 5000 ≤ now →
+        IsAwaited peer (after (Passes now) (after_all hs (after (Asks peer asked) a))) → ⊥ }
+{}
+
+/// A node that has a peer that ends its resync as finished if it is asked comes to be up to date. From any state, once a minute has
+/// passed in which nothing came, nobody is waited for, and the peer can be asked. From then on, whichever of the peers that are next
+/// is asked each 5 s, and whatever the others answer, there are no more rounds than peers, and as long as the node isn't up to date,
+/// there is a peer to be asked.
+pub fn a_node_comes_to_be_up_to_date()
+    ensures minute { (a : AskingState) (peer now : ℕ) → HasSession peer now a → is_heard_before (now + 1) a.awaited ≡ true →
+        ((lapsed (now + 60000) a).awaited ≡ None) × CanBeAsked peer (now + 60000) (lapsed (now + 60000) a) }
+    ensures rounds { (answers : ℕ → Answer) (peer now : ℕ) (peers : List ℕ) (a e : AskingState) → CanBeAsked peer now a → answers peer ≡ Finished →
+        Rounds answers now peers a e → length peers ≤ length a.peers }
+    ensures goes_on { (answers : ℕ → Answer) (peer now : ℕ) (peers : List ℕ) (a e : AskingState) → a.awaited ≡ None → CanBeAsked peer now a → answers peer ≡ Finished →
+        Rounds answers now peers a e → (e.up_to_date ≡ true) ⊎ ((next : ℕ) × (is_next next (now + 5000 * length peers) e ≡ true)) }
+{}

@@ -1,0 +1,174 @@
+//! What a node does whose peers answer, are mute, go and come back; and when the ticks of a session come.
+
+use crate::asking::Asking;
+use crate::ticks::{Ticks, Traffic};
+use std::alloc::Global;
+
+/// A call of the machine that asks peers, and what it returns.
+enum Call {
+    Begins(usize),
+    Ends(usize),
+    Asks(usize, u64, bool),
+    Hears(usize, u64),
+    Finishes(usize),
+    FinishesPartly(usize),
+    Lapses(u64, Option<usize>),
+    Settles(u64, bool),
+    IsUpToDate(bool),
+}
+
+/// The first peer is mute, and its late answer counts, though the second is waited for then.
+static LATE: [Call; 11] = [
+    Call::Begins(0),
+    Call::Begins(1),
+    Call::Asks(0, 10, true),
+    Call::Asks(1, 20, false),
+    Call::Hears(0, 3_000),
+    Call::Lapses(7_999, None),
+    Call::Lapses(8_000, Some(0)),
+    Call::Asks(0, 8_000, false),
+    Call::Asks(1, 8_001, true),
+    Call::Finishes(0),
+    Call::IsUpToDate(true),
+];
+
+/// A peer that wasn't asked, or has answered, says nothing new by an end.
+static UNASKED: [Call; 7] = [
+    Call::Begins(0),
+    Call::Finishes(0),
+    Call::IsUpToDate(false),
+    Call::Asks(0, 10, true),
+    Call::FinishesPartly(0),
+    Call::Finishes(0),
+    Call::IsUpToDate(false),
+];
+
+/// Both are asked again a minute after they were, the one first that was asked first; the second has all rows by then.
+static AGAIN: [Call; 13] = [
+    Call::Begins(0),
+    Call::Begins(1),
+    Call::Asks(1, 100, true),
+    Call::FinishesPartly(1),
+    Call::Asks(0, 200, true),
+    Call::Lapses(5_200, Some(0)),
+    Call::Settles(6_000, false),
+    Call::Asks(1, 60_099, false),
+    Call::Asks(0, 60_200, false),
+    Call::Asks(1, 60_200, true),
+    Call::Finishes(1),
+    Call::IsUpToDate(true),
+    Call::Asks(0, 70_000, false),
+];
+
+/// A session that breaks lets the next peer be asked, and its peer is asked again on its next one.
+static BROKEN: [Call; 9] = [
+    Call::Begins(0),
+    Call::Begins(1),
+    Call::Asks(0, 10, true),
+    Call::Ends(0),
+    Call::Begins(0),
+    Call::Asks(0, 20, false),
+    Call::Asks(1, 20, true),
+    Call::FinishesPartly(1),
+    Call::Asks(0, 30, true),
+];
+
+/// All peers with a session have taught what they have; the third may come until 5 s have passed.
+static PARTIAL: [Call; 9] = [
+    Call::Settles(5_000, false),
+    Call::Begins(0),
+    Call::Asks(0, 10, true),
+    Call::FinishesPartly(0),
+    Call::Settles(4_999, false),
+    Call::IsUpToDate(false),
+    Call::Settles(5_000, true),
+    Call::Settles(5_001, false),
+    Call::IsUpToDate(true),
+];
+
+/// Returns whether a call returns what it should.
+fn is_right(asking: &mut Asking, call: &Call) -> bool {
+    match call {
+        Call::Begins(peer) => asking.begin(*peer),
+        Call::Ends(peer) => asking.end(*peer),
+        Call::Asks(peer, now, asks) => return asking.ask(*peer, *now) == *asks,
+        Call::Hears(peer, now) => asking.hear(*peer, *now),
+        Call::Finishes(peer) => asking.finish(*peer),
+        Call::FinishesPartly(peer) => asking.finish_partly(*peer),
+        Call::Lapses(now, peer) => return asking.lapse(*now) == *peer,
+        Call::Settles(now, settles) => return asking.settle(*now) == *settles,
+        Call::IsUpToDate(is) => return asking.is_up_to_date() == *is,
+    }
+    true
+}
+
+/// Returns the index of the first call that returns something else, or `None` if there is none, or no memory.
+fn first_wrong(alloc: Global, peers: usize, calls: &[Call]) -> Option<usize> {
+    let mut asking = Asking::new(alloc, peers).ok()?;
+    for (index, call) in calls.iter().enumerate() {
+        if !is_right(&mut asking, call) {
+            return Some(index);
+        }
+    }
+    None
+}
+
+#[test]
+fn peers_are_asked(rt: HostRuntime) {
+    assert_eq!(rt; first_wrong(rt.alloc(), 2, &LATE), None);
+    assert_eq!(rt; first_wrong(rt.alloc(), 1, &UNASKED), None);
+    assert_eq!(rt; first_wrong(rt.alloc(), 2, &AGAIN), None);
+    assert_eq!(rt; first_wrong(rt.alloc(), 2, &BROKEN), None);
+    assert_eq!(rt; first_wrong(rt.alloc(), 2, &PARTIAL), None);
+    assert_eq!(rt; first_wrong(rt.alloc(), 0, &[Call::IsUpToDate(true)]), None);
+}
+
+/// Returns what went over a connection of which the session has read so many bytes.
+fn read_so_far(received: u64) -> Traffic {
+    Traffic {
+        sent: 0,
+        received,
+        heartbeats: 0,
+        sent_at: 0,
+    }
+}
+
+/// When it is asked whether a tick comes, and how many bytes have arrived then; and whether one does.
+static TICKS: [(u64, u64, bool); 8] = [
+    (0, 0, true),
+    (99, 0, false),
+    (100, 0, true),
+    // One that is late by more than a second is put off by a second, once.
+    (1_300, 0, false),
+    (2_299, 0, false),
+    (5_000, 0, true),
+    // One after 10 s in which the session has read nothing waits until what arrived is read.
+    (10_500, 1, false),
+    (10_600, 0, false),
+];
+
+/// Returns the index of the first time at which a tick comes or doesn't, unlike what is expected.
+fn first_unexpected(times: &[(u64, u64, bool)]) -> Option<usize> {
+    let mut ticks = Ticks::new(0);
+    for (index, (now, arrived, comes)) in times.iter().enumerate() {
+        if ticks.is_tick(*now, *arrived) != *comes {
+            return Some(index);
+        }
+    }
+    None
+}
+
+/// Returns whether the tick comes once the session has read what has arrived.
+fn comes_once_read() -> bool {
+    let mut ticks = Ticks::new(0);
+    let first = ticks.is_tick(0, 0);
+    let waits = !ticks.is_tick(11_000, 5);
+    ticks.note(11_000, read_so_far(5));
+    first && waits && ticks.is_tick(11_100, 5)
+}
+
+#[test]
+fn ticks_come(rt: HostRuntime) {
+    assert_eq!(rt; first_unexpected(&TICKS), None);
+    assert!(rt; comes_once_read());
+}
