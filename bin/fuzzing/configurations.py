@@ -7,10 +7,11 @@ from fuzzing.programs import require
 from fuzzing.standing import random_local_roster
 from fuzzing.tables import random_name, random_table, table_line
 
-SAID = re.compile(rb'(?:configuration|line ([1-9][0-9]*)): refused\n')
+# What is said of each fault, and at most how many faults are named.
+FAULT = re.compile(rb'(?:configuration|line ([1-9][0-9]*)): [ -~]+\n')
+MOST = 20
 # Lines that are refused wherever they stand.
-WRONG = (b'nod n', b'node', b'node -', b'node ' + b'n' * 256, b'node n m', b'node \x7f', b'Node n', b' node n', b'node  n', b'node n ', b'node n\r',
-         b'\tnode n', b'listen', b'listen 10.0.0.1', b'listen 10.0.0.1:', b'listen 10.0.0.1:0', b'listen 10.0.0.1:65536', b'listen 10.0.0.1:05',
+WRONG = (b'nod n', b'node', b'node -', b'node ' + b'n' * 256, b'node n m', b'node \x7f', b'Node n', b'node #n', b'node\rn', b'listen', b'listen 10.0.0.1', b'listen 10.0.0.1:', b'listen 10.0.0.1:0', b'listen 10.0.0.1:65536', b'listen 10.0.0.1:05',
          b'listen 256.0.0.1:5', b'listen 10.0.0:5', b'listen 010.0.0.1:5', b'listen localhost:5', b'listen ::1:5', b'listen [::1%lo]:5', b'listen [::1]',
          b'listen [::g]:5', b'listen [1::2::3]:5', b'listen 10.0.0.1:5 6', b'admin 10.0.0.1:5', b'admin 0.0.0.0:5', b'admin [::2]:5', b'admin [::]:5',
          b'section -', b'section', b'section a b', b'peer', b'peer -', b'peer - 10.0.0.1:5', b'peer p 10.0.0.1', b'peer p 10.0.0.1:5 6', b'peer p p:5',
@@ -23,8 +24,8 @@ ADDRESSES = (b'10.0.0.1:5', b'0.0.0.0:65535', b'255.255.255.255:1', b'[::1]:5', 
 ADMINS = (b'127.0.0.1:5', b'127.255.255.255:65535', b'[::1]:9')
 
 
-def random_lines(random):
-    """Returns the lines of a configuration that is taken, in any order."""
+def lines_or_comments(random):
+    """Returns the lines of a configuration, in any order. It is taken, unless a name begins with `#`."""
     tables = random_local_roster(random)
     if random.random() < 0.1:
         tables = [random_table(random, 1000 + at, b'u%d' % at) for at in range(64)]
@@ -43,9 +44,26 @@ def random_lines(random):
     return lines
 
 
+def random_lines(random):
+    """Returns the lines of a configuration that is taken, in any order."""
+    while True:
+        lines = lines_or_comments(random)
+        if not any(b' #' in line for line in lines if line[:1] != b'#'):
+            return lines
+
+
+def loosened(random, line):
+    """Returns a line that says the same, with other blanks, and with a comment behind its words."""
+    blanks = (b' ', b'\t', b'  ', b' \t ')
+    if line[:1] != b'#':
+        line = re.sub(b' ', lambda _: random.choice(blanks), line)
+        line += random.choice((b'', b'', b' ', b'\t# ' + random_name(random), b' #'))
+    return random.choice((b'', b'', b' ', b'\t\t')) + line + random.choice((b'', b'', b'\r'))
+
+
 def make(random):
-    """Returns lines and what becomes of them: the number of the line that is refused, `taken`, `configuration`, or None if that isn't known.
-    A line that has to be there may be missing beside one that is refused."""
+    """Returns lines and what becomes of them: the number of the first line that is refused, `taken`, `configuration` if one that has to be
+    there is missing, or None if that isn't known."""
     lines = random_lines(random)
     at = random.randint(0, len(lines))
     what = random.randrange(6)
@@ -65,8 +83,8 @@ def make(random):
         lines = [line for line in lines if line.split(b' ')[0] != word]
         wanted = 'configuration'
     elif what == 3:
-        wanted = len(lines)
-        lines[-1] += b'#' * (lines[-1][:1] == b'')
+        lines = [loosened(random, line) for line in lines]
+        lines[-1] = lines[-1].rstrip(b'\r')
     elif what == 4:
         wanted = None
         for _ in range(random.choice((1, 1, 2, 5))):
@@ -75,33 +93,58 @@ def make(random):
 
 
 def checked(program, data):
-    """Returns what `run --check` says of a configuration: the number of a line that is refused, `taken` or `configuration`."""
+    """Returns what `run --check` says of a configuration: `taken`, or the number of each refused line and `configuration` for each that is
+    missing, in order."""
     ending = program.run('run', '--check', text=data)
     require(ending.status in (0, 1) and not ending.output, 'status', 'of run --check', ending)
     if ending.status == 0:
         require(not ending.errors, 'standard error', 'of a configuration that is taken', ending.errors)
         return 'taken'
-    match = SAID.fullmatch(ending.errors)
-    require(match, 'standard error', 'of run --check', ending.errors)
-    return int(match[1]) if match[1] else 'configuration'
+    said = ending.errors.splitlines(keepends=True)
+    require(1 <= len(said) <= MOST and all(FAULT.fullmatch(line) for line in said), 'standard error', 'of run --check', ending.errors)
+    found = [FAULT.fullmatch(line)[1] for line in said]
+    numbers = [int(number) for number in found if number]
+    require(numbers == sorted(set(numbers)) and None not in found[:len(numbers)], 'standard error', 'is not in the order of lines', ending.errors)
+    return numbers + ['configuration'] * found.count(None)
 
 
-def has_needed(lines):
-    """Whether lines have one each that begins with a word that has to be there."""
-    return set(NEEDED) <= {line.split(b' ')[0] for line in lines}
+def words_of(line):
+    """Returns the words of a line without its LF, up to a comment."""
+    words = [word for word in re.split(rb'[ \t]+', line) if word]
+    comment = next((at for at, word in enumerate(words) if word[:1] == b'#'), len(words))
+    return words[:comment]
+
+
+def missing(data):
+    """Returns how many of the lines are missing that have to be there."""
+    *whole, last = data.split(b'\n')
+    lines = [line[:-1] if line[-1:] == b'\r' else line for line in whole] + [last]
+    first = {words[0] for words in map(words_of, lines) if words}
+    return len(set(NEEDED) - first)
 
 
 def judge(program, case):
     lines = case['lines']
     data = b'\n'.join(lines) + case['end'] if lines else b''
     said = checked(program, data)
-    require(case['wanted'] in (None, said), 'a configuration', 'is not answered %r but' % case['wanted'], said)
+    wanted = case['wanted']
+    if wanted in ('taken', None):
+        require(wanted is None or said == 'taken', 'a configuration', 'is not taken but answered', said)
+    else:
+        require(said != 'taken', 'a configuration', 'is taken and not answered', wanted)
+        require(wanted == said[0] or wanted == said[-1] or len(said) == MOST, 'a configuration', 'is not answered %r but' % wanted, said)
+    if said == 'taken':
+        require(missing(data) == 0, 'a configuration', 'is taken of which a line is missing:', data)
+        return
+    if len(said) < MOST:
+        require(said.count('configuration') == missing(data), 'a configuration', 'of which other lines are missing:', said, data)
     lines = data.split(b'\n')
-    require((said == 'configuration') == (not has_needed(lines)), 'a configuration', 'of which a line is missing, or none:', said, data)
-    if isinstance(said, int):
-        require(1 <= said <= len(lines), 'a refused line', 'that is not there', said)
-        if said < len(lines) and has_needed(lines[:said]):
-            cut = checked(program, b''.join(line + b'\n' for line in lines[:said]))
-            require(cut == said, 'a refused line', 'is taken without the lines after it', said, cut)
-        before = checked(program, b''.join(line + b'\n' for line in lines[:said - 1]))
-        require(not isinstance(before, int), 'a refused line', 'is not the first', said, before)
+    for number in [number for number in said if number != 'configuration'][:3]:
+        require(1 <= number <= len(lines), 'a refused line', 'that is not there', number)
+        cut = checked(program, b''.join(line + b'\n' for line in lines[:number]))
+        before = checked(program, b''.join(line + b'\n' for line in lines[:number - 1]))
+        require(cut != 'taken' and number in cut, 'a refused line', 'is taken without the lines behind it', number, cut)
+        require(before == 'taken' or number not in before, 'a refused line', 'is not there', number, before)
+        same = [other for other in said if other != 'configuration' and other < number]
+        require(same == [other for other in before if other != 'configuration'] if before != 'taken' else not same,
+                'the refused lines before one', 'are others without it', number, same, before)
