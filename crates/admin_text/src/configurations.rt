@@ -57,7 +57,7 @@ fn configuration_of(alloc: Global, lines: &[Statement<'_>]) -> Result<Configurat
 {
     let mut so_far = ConfigurationSoFar::new(alloc);
     for line in lines {
-        // A line without a fault is refused only for want of memory.
+        // `read_line` takes every line that has no fault, unless memory runs out.
         if so_far.read_line(alloc, line.words.as_slice()).is_err() {
             return Err(Memory);
         }

@@ -123,7 +123,7 @@ fn peers_are_asked(rt: HostRuntime) {
     assert_eq!(rt; first_wrong(rt.alloc(), 0, &[Call::IsUpToDate(true)]), None);
 }
 
-/// Returns what went over a connection of which the session has read so many bytes.
+/// Returns the traffic of a session that has received `received` bytes.
 fn read_so_far(received: u64) -> Traffic {
     Traffic {
         sent: 0,

@@ -84,7 +84,7 @@ none_rises a b bytes some (within, appends, taken, failed, idle, retried) =
     let none : took_none 0 bytes ≡ true = rw (ne_eqb (length bytes) 0 (λ (is : length bytes ≡ 0). let bad : ⊥ = omega (arith, some, is) in bad)) refl in
     one_rises a.idle b.idle (subst (λ (t : Bool). CountsIf t a.idle b.idle) none idle)
 
--- so many writes failed without being counted, or the count is full
+-- at least `times` more writes failed without being counted since the count was `start`, or the count is full
 abbrev pub HasRetried : ℕ → ℕ → ℕ → Type 0
 HasRetried start times now = (start + times ≤ now) ⊎ (now ≡ 2 ^ 64 - 1)
 

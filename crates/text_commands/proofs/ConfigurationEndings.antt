@@ -1,4 +1,4 @@
--- How a configuration that is refused ends, and what is said of it.
+-- How a subcommand ends that refuses a configuration, and what it writes.
 use Rattle.std.proofs.Common.{◌≡◌, ◌∙◌, ◌++◌, true, ℕ, List, ap, inl, inr, refl, subst, sym}
 use Rattle.std.specs.Prelude.{◌⊎◌, ◌≢◌, Option, None, Some}
 use Rattle.std.specs.Io.KnownBytes.{Appends, Consumes, IsAtEnd}
