@@ -1,11 +1,20 @@
 # Checks of `run --check`. They stand in a file of their own, which bin/test reads.
 
-# checked_is ANSWER WHAT: ANSWER is `taken`, or how the lines begin that say why `run --check` refuses the configuration in $scene.
+# checked_is ANSWER WHAT: ANSWER is `taken`, maybe with warnings, or how the lines begin that say why `run --check` refuses the
+# configuration in $scene.
 checked_is() {
     local heads
     run run --check <"$scene"
     case $1 in
-        taken) ends "run --check of $2" 0 '' '' ;;
+        taken)
+            ends "run --check of $2" 0 '' "$errors"
+            if LC_ALL=C grep -Evq '^(line [1-9][0-9]*|configuration): warning: [ -~]+$' "$scratch/errors"; then
+                fail "run --check of $2: it is taken, but standard error is:"
+                head -c 2000 "$scratch/errors" | cat -v
+            else
+                pass
+            fi
+            ;;
         *)
             ends "run --check of $2" 1 '' "$errors"
             heads=$(sed 's/: .*//' "$scratch/errors" | paste -sd, | sed 's/,/, /g')
@@ -38,6 +47,17 @@ mistakes() {
     for name in examples/mistakes/*.conf; do
         run run --check <"$name"
         ends "run --check of $name" 1 '' "$(sed -n 's/^#! //p' "$name")"$'\n'
+    done
+}
+
+# What is legal and surely meant otherwise, with the sentences that it gets. The node itself says nothing of it.
+warnings() {
+    local name
+    for name in examples/warnings/*.conf; do
+        run run --check <"$name"
+        sed -n 's/^#! //p' "$name" >"$scratch/warnings"
+        slurp "$scratch/warnings"
+        ends "run --check of $name" 0 '' "$text"
     done
 }
 

@@ -1,5 +1,5 @@
-# Checks of the manual page of `run`, of the configurations that it shows, and of the unit. They stand in a file of their own, which
-# bin/test reads. What can't be checked here is said, and not counted.
+# Checks of the manual page of `run`, of the configurations that it shows, of the unit, and of the alerts. They stand in a file of their
+# own, which bin/test reads. What can't be checked here is said, and not counted.
 
 page=docs/peers_node.8
 
@@ -37,9 +37,27 @@ haproxy_takes_it() {
 
 # The unit, with another program that is there in place of the one that it starts.
 unit_is_sound() {
+    local line
+    for line in Restart=always StartLimitIntervalSec=0; do
+        if grep -qx "$line" dist/digbaro.service; then pass; else fail "the unit has no line $line, so it may give up"; fi
+    done
     sed 's|/usr/bin/peers_node|/bin/true|' dist/digbaro.service >"$scratch/digbaro.service"
     keep systemd-analyze verify --man=no "$scratch/digbaro.service"
     ends 'systemd-analyze verify of the unit' 0 '' ''
+    keep systemd-analyze security --no-pager --offline=true --threshold=15 "$scratch/digbaro.service"
+    ends 'systemd-analyze security of the unit, which is to be 1.5 at most' 0 "$output" ''
+}
+
+# Each alert is raised and is silent as the test of the rules says, and names only metrics that docs/FORMATS.md has.
+alerts_are_sound() {
+    local name
+    keep promtool check rules dist/digbaro.rules.yml
+    ends 'promtool check rules' 0 "$output" "$errors"
+    keep promtool test rules dist/digbaro.rules.test.yml
+    ends 'promtool test rules' 0 "$output" "$errors"
+    for name in $(grep -o '\(digbaro\|haproxy\)_[a-z_]*' dist/digbaro.rules.yml | sort -u); do
+        if grep -q "\`$name[\`{]" docs/FORMATS.md; then pass; else fail "docs/FORMATS.md has no metric $name, of which an alert speaks"; fi
+    done
 }
 
 manual() {
@@ -48,4 +66,5 @@ manual() {
     ! has man 'the manual page' || page_is_sound
     ! has haproxy 'the configuration in the manual page' || haproxy_takes_it
     ! has systemd-analyze 'the unit' || unit_is_sound
+    ! has promtool 'the alerts' || alerts_are_sound
 }

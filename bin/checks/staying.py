@@ -6,7 +6,8 @@
   staying.py --list               the names of the checks, and what each of them is about
 
 For each check it prints a line `passed NAME`, `FAILED NAME: WHY` or `skipped NAME: WHY`, and at the end how many passed and failed; the
-status is 0 only if none failed and one at least passed. A check that is skipped counts as neither."""
+status is 0 only if none failed and one at least passed. A check that is skipped counts as neither. One that failed beside the others is
+tried once more by itself, as up to three may be; more of them have failed."""
 
 import os
 import signal
@@ -21,14 +22,19 @@ sys.path[0] = os.path.join(top, 'bin')
 
 from peering.ports import Ports  # noqa: E402, since the path has to be set first
 from peering.trial import CHECKS, Skipped, Trial, Wrong  # noqa: E402
-from staying import balancers, hostile, meshes, requests, resyncs, sessions, starting  # noqa: E402, F401
+from staying import (  # noqa: E402, F401
+    balancers, clocks, definitions, hostile, logs, measures, meshes, ports, requests, resyncs, sessions, starting,
+)
 
 AT_ONCE = 20
 # All checks have to end in so many seconds.
 LIMIT = 600
+# So many checks may be tried a second time, on a host that was too slow for all of them at once.
+AGAIN = 3
 # Those that take longest, which begin first.
-LONGEST = """asks-again-after-a-minute three-faults idle-clients million-changes haproxy-starts-again haproxy-that-connects
-    haproxy-that-is-connected-to deaf stops-beside-the-deaf heartbeats heartbeats-of-a-connector idle bytes-are-enough a-byte-a-second reads-slowly
+LONGEST = """asks-again-after-a-minute clock-heartbeats clock-jumps clock-of-a-mute-peer three-faults idle-clients metrics-idle million-changes stops-beside-scrapes clock-of-slow-clients clock-of-lags suspended haproxy-starts-again haproxy-that-connects
+    haproxy-that-is-connected-to haproxy-of-version-2-0 haproxy-that-differs lacking-tables many-tables-differ deaf stops-beside-the-deaf heartbeats heartbeats-of-a-connector idle bytes-are-enough
+    a-byte-a-second reads-slowly
     silent silent-to-a-connector two-of-three-killed
     killed-and-started-again stopped-and-started-again no-answer-to-a-hello refused-by-a-status falls-back""".split()
 
@@ -81,7 +87,7 @@ def run(program, names):
             word, why = check.result(max(0, begun + LIMIT - time.monotonic()))
         except NotYet:
             word, why = 'FAILED', 'it has not ended after %d s' % LIMIT
-        if word == 'FAILED' and check.done() and len(names) > 1:
+        if word == 'FAILED' and check.done() and len(names) > 1 and len(again) < AGAIN:
             again.append(name)
             print('again %s: %s' % (name, why), flush=True)
             continue
@@ -92,7 +98,7 @@ def run(program, names):
         word, why = tried(program, ports, CHECKS[name])
         counts[word] += 1
         print(word, name if why is None else '%s: %s' % (name, why), flush=True)
-    print('%d passed, %d failed, %d skipped, in %.0f s' % (*counts.values(), time.monotonic() - begun), flush=True)
+    print('%d passed, %d failed, %d skipped, %d tried again, in %.0f s' % (*counts.values(), len(again), time.monotonic() - begun), flush=True)
     if not all(check.done() for _, check in running):
         give_up()
     return 0 if counts['passed'] and not counts['FAILED'] else 1

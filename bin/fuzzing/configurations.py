@@ -1,5 +1,6 @@
 """Configurations of a node that stays, as `run --check` reads them (docs/FORMATS.md, section 13)."""
 
+import ipaddress
 import re
 
 from fuzzing.lines import spoil_line
@@ -10,17 +11,27 @@ from fuzzing.tables import random_name, random_table, table_line
 # What is said of each fault, and at most how many faults are named.
 FAULT = re.compile(rb'(?:configuration|line ([1-9][0-9]*)): [ -~]+\n')
 MOST = 20
+# What is said of each warning.
+WARNING = re.compile(rb'(?:configuration|line ([1-9][0-9]*)): warning: [ -~]+\n')
+# The longest time of HAProxy's, in ms.
+LONGEST = 2 ** 31 - 1
 # Lines that are refused wherever they stand.
 WRONG = (b'nod n', b'node', b'node -', b'node ' + b'n' * 256, b'node n m', b'node \x7f', b'Node n', b'node #n', b'node\rn', b'listen', b'listen 10.0.0.1', b'listen 10.0.0.1:', b'listen 10.0.0.1:0', b'listen 10.0.0.1:65536', b'listen 10.0.0.1:05',
          b'listen 256.0.0.1:5', b'listen 10.0.0:5', b'listen 010.0.0.1:5', b'listen localhost:5', b'listen ::1:5', b'listen [::1%lo]:5', b'listen [::1]',
          b'listen [::g]:5', b'listen [1::2::3]:5', b'listen 10.0.0.1:5 6', b'admin 10.0.0.1:5', b'admin 0.0.0.0:5', b'admin [::2]:5', b'admin [::]:5',
          b'section -', b'section', b'section a b', b'peer', b'peer -', b'peer - 10.0.0.1:5', b'peer p 10.0.0.1', b'peer p 10.0.0.1:5 6', b'peer p p:5',
-         b'peer ' + b'p' * 256, b'size', b'size 999', b'size 999 5', b'size 0 5', b'size 2147483648 5', b'nopurge', b'nopurge 999', b'moment 4294967296',
+         b'peer ' + b'p' * 256, b'peer p from', b'peer p 10.0.0.1:5 from', b'peer p 10.0.0.1:5 10.0.0.1', b'peer p from 10.0.0.1:5', b'peer p from [::1]',
+         b'peer p from 10.0.0.0/33', b'peer p from 10.0.0.0/08', b'peer p from ::/129', b'peer p from 10.0.0/8', b'peer p from 10.0.0.1 x', b'peer p from /8',
+         b'peer p from ::%lo', b'metrics', b'metrics 10.0.0.1', b'metrics localhost:5', b'metrics 10.0.0.1:0', b'metrics unix:/a', b'metrics 10.0.0.1:5 6',
+         b'admin unix:', b'admin unix', b'admin unix:a b', b'admin unix:a\x00', b'admin unix:' + b'a' * 108, b'admin /a', b'log', b'log Info', b'log warning',
+         b'log journal info', b'log info journal', b'log 6', b'size', b'size 999', b'size 999 5', b'size 0 5', b'size 2147483648 5', b'nopurge', b'nopurge 999', b'moment 4294967296',
          b'stream 00', b'define 1', b'last 1 1', b'select 1', b'slot 1 a', b'prices 1', b'first 1 1', b'sessions 1', b'table', b'table 1',
          b'table 2147483648 x integer 4 0', b'table 4294967295 x integer 4 0', b'table 998 x integer 5 0', b'table 998 x integer 4 0 gpt9',
          b'\x00', b'\xff', b'-', b'.')
 NEEDED = (b'node', b'listen', b'table')
 ADDRESSES = (b'10.0.0.1:5', b'0.0.0.0:65535', b'255.255.255.255:1', b'[::1]:5', b'[::]:5', b'[2001:DB8::7]:9', b'[1:2:3:4:5:6:7:8]:5', b'[::ffff:1.2.3.4]:5')
+PATHS = (b'a', b'/run/digbaro/admin.sock', b'a' * 107, b'\xff#', b'unix:a')
+NETWORKS = (b'10.0.0.1', b'10.0.0.0/24', b'0.0.0.0/0', b'10.0.0.1/32', b'::1', b'2001:DB8::/32', b'::/0', b'::ffff:10.0.0.0/104', b'1:2:3:4:5:6:7:8/128')
 ADMINS = (b'127.0.0.1:5', b'127.255.255.255:65535', b'[::1]:9')
 
 
@@ -33,8 +44,12 @@ def lines_or_comments(random):
     random.shuffle(names)
     own, *others = names
     lines = [b'node ' + own, b'listen ' + random.choice(ADDRESSES)] + [table_line(table) for table in tables]
-    lines += [b'peer ' + name + random.choice((b'', b' ' + random.choice(ADDRESSES))) for name in others]
-    lines += [b'admin ' + random.choice(ADMINS)] * random.choice((0, 1)) + [b'section ' + random_name(random)] * random.choice((0, 1))
+    for name in others:
+        origins = random.choice(([], [], random.sample(NETWORKS, random.randint(1, len(NETWORKS)))))
+        lines.append(b' '.join([b'peer', name, *random.sample(ADDRESSES, random.choice((0, 1))), *([b'from'] + origins if origins else [])]))
+    for line in (b'admin ' + random.choice(ADMINS), b'admin unix:' + random.choice(PATHS), b'metrics ' + random.choice(ADDRESSES), b'section ' + random_name(random),
+                 b'log ' + random.choice((b'error', b'warn', b'info', b'debug')), b'log journal'):
+        lines += [line] * random.choice((0, 1))
     lines += random.choice(([], [b''], [b'# ' + random_name(random), b'#']))
     random.shuffle(lines)
     for table in tables:
@@ -92,13 +107,78 @@ def make(random):
     return {'lines': lines, 'end': b'' if what == 3 else b'\n', 'wanted': wanted}
 
 
+def statements(data):
+    """Returns the number and the words of each line that has some."""
+    *whole, last = data.split(b'\n')
+    lines = [line[:-1] if line[-1:] == b'\r' else line for line in whole] + [last]
+    return [(number, words_of(line)) for number, line in enumerate(lines, 1) if words_of(line)]
+
+
+def place_of(words):
+    """Returns the address of a line of the node or of a peer, and its port; None if it has none. IPv4 addresses are those that they are mapped to."""
+    rest = words[1:] if words[0] in (b'listen', b'metrics', b'admin') else words[2:] if words[0] == b'peer' else []
+    if not rest or rest[0] == b'from' or rest[0].startswith(b'unix:'):
+        return None
+    host, _, port = rest[0].decode().rpartition(':')
+    if host[:1] == '[':
+        return ipaddress.IPv6Address(host[1:-1]), int(port)
+    return ipaddress.IPv6Address('::ffff:' + host), int(port)
+
+
+def is_every(address):
+    return address in (ipaddress.IPv6Address('::'), ipaddress.IPv6Address('::ffff:0.0.0.0'))
+
+
+def is_here(address):
+    return is_every(address) or address == ipaddress.IPv6Address('::1') or address in ipaddress.IPv6Network('::ffff:127.0.0.0/104')
+
+
+def address_warnings(said, number, words):
+    """Returns the number of the line for each warning of its address."""
+    place = place_of(words)
+    own = {other[0]: place_of(other) for _, other in said if other[0] in (b'listen', b'admin') and place_of(other)}
+    if not place or words[0] == b'listen':
+        return []
+    (address, port), (listen, listened) = place, own[b'listen']
+    if words[0] == b'admin':
+        return [number] * (port == listened)
+    if words[0] == b'metrics':
+        return [number] * any(port == taken and (address == other or is_every(address) or is_every(other)) for other, taken in own.values())
+    if port == listened and (address == listen or is_every(address) and is_here(listen) or is_here(address) and is_every(listen)):
+        return [number]
+    return [number] * any(place_of(other) == place for line, other in said if other[0] == b'peer' and line < number)
+
+
+def table_warnings(number, words):
+    """Returns the number of the line for each warning of a table."""
+    _, _, name, kind, length, expire, *types = words
+    periods = [int(word.split(b':')[1]) for word in types if b':' in word]
+    found = (b'/' in name[1:] and name[:1] != b'/', kind == b'string' and (int(length) % 4 == 0 or int(length) % 10 == 0), int(expire) > LONGEST,
+             any(period > LONGEST for period in periods))
+    return [number] * sum(found)
+
+
+def warned(data):
+    """Returns the number of the line for each warning of a configuration that is taken, and `configuration` if it has no peers."""
+    said = statements(data)
+    numbers = []
+    for number, words in said:
+        numbers += address_warnings(said, number, words)
+        if words[0] == b'table':
+            numbers += table_warnings(number, words)
+    return numbers + ['configuration'] * all(words[0] != b'peer' for _, words in said)
+
+
 def checked(program, data):
     """Returns what `run --check` says of a configuration: `taken`, or the number of each refused line and `configuration` for each that is
     missing, in order."""
     ending = program.run('run', '--check', text=data)
     require(ending.status in (0, 1) and not ending.output, 'status', 'of run --check', ending)
     if ending.status == 0:
-        require(not ending.errors, 'standard error', 'of a configuration that is taken', ending.errors)
+        said = ending.errors.splitlines(keepends=True)
+        require(all(WARNING.fullmatch(line) for line in said), 'standard error', 'of a configuration that is taken', ending.errors)
+        found = [int(WARNING.fullmatch(line)[1] or 0) or 'configuration' for line in said]
+        require(found == warned(data), 'the lines that are warned of', 'are others', found, warned(data))
         return 'taken'
     said = ending.errors.splitlines(keepends=True)
     require(1 <= len(said) <= MOST and all(FAULT.fullmatch(line) for line in said), 'standard error', 'of run --check', ending.errors)
@@ -117,10 +197,7 @@ def words_of(line):
 
 def missing(data):
     """Returns how many of the lines are missing that have to be there."""
-    *whole, last = data.split(b'\n')
-    lines = [line[:-1] if line[-1:] == b'\r' else line for line in whole] + [last]
-    first = {words[0] for words in map(words_of, lines) if words}
-    return len(set(NEEDED) - first)
+    return len(set(NEEDED) - {words[0] for _, words in statements(data)})
 
 
 def judge(program, case):

@@ -12,6 +12,7 @@ import subprocess
 import threading
 import time
 
+from peering.logs import said_by
 from peering.node import Admin, fields
 from peering.records import Lesson, Process, Sighting
 from peering.trial import Wrong, require, wait
@@ -135,7 +136,8 @@ class Member:
 
     def ends(self, peer, begin, end):
         """Returns what it said of the ends of its sessions with a peer from one moment to another, each with its moment."""
-        return [(moment, line) for moment, line in self.said if begin <= moment < end and line.startswith('peer %s down' % peer)]
+        said = [(moment, line, said_by(line)) for moment, line in self.said if begin <= moment < end]
+        return [(moment, line) for moment, line, said in said if said and said.event == 'ended' and said.keys['peer'] == peer]
 
     def all_faults(self):
         """Returns its counts of faults, of all its processes together, each as it was seen last."""
@@ -323,16 +325,18 @@ class NodeMember(Member):
     def lesson(self, process):
         """Returns when, and by which peer, a resync of one of its processes was finished; or None if none was."""
         for moment, line in self.said:
-            match = re.fullmatch(r'peer (\S+) resync learner finished .*', line)
-            if match and process.begun <= moment < process.over:
-                return Lesson(moment, match[1])
+            said = said_by(line)
+            if said and process.begun <= moment < process.over and said.event == 'resync-ended' \
+                    and (said.keys['role'], said.keys['end']) == ('learner', 'finished'):
+                return Lesson(moment, said.keys['peer'])
         return None
 
     def has_left(self, peer, table, moment):
         """Whether it had left a table on its connection with a peer at a moment."""
-        words = ('peer %s up' % peer, 'peer %s left table %d' % (peer, {'ints': 1, 'names': 2}[table]))
-        lines = [line for said, line in self.said if said <= moment and line.startswith(words)]
-        return bool(lines) and lines[-1] == words[1]
+        lines = [said_by(line) for said, line in self.said if said <= moment]
+        lines = [said for said in lines if said and said.keys.get('peer') == peer
+                 and (said.event == 'connected' or said.event == 'left' and said.keys['table'] == {'ints': '/ints', 'names': 'names'}[table])]
+        return bool(lines) and lines[-1].event == 'left'
 
     def is_up_to_date(self, sighting):
         return sighting.resync == 'yes'

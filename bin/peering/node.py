@@ -8,6 +8,7 @@ import subprocess
 import tempfile
 import time
 
+from peering.logs import all_said, chosen
 from peering.trial import PATIENCE, equal, matches, require, wait
 
 FIRST_MOMENT = 2 ** 32
@@ -105,6 +106,7 @@ class Node:
         lines += ['peer ' + peer for peer in peers] + list(tables) + list(more)
         self.configuration = ''.join(line + '\n' for line in lines)
         self.within = ()  # The words of a command line before those of the program.
+        self.environment = None  # Its environment, if that isn't this process's.
         self.may_end = False
         self.admins = None
         self.child = None
@@ -122,7 +124,8 @@ class Node:
         """Starts it."""
         self.output, self.errors = tempfile.TemporaryFile(), tempfile.TemporaryFile()
         self.started = time.monotonic()
-        self.child = subprocess.Popen([*self.within, self.trial.program, 'run'], stdin=subprocess.PIPE, stdout=self.output, stderr=self.errors)
+        self.child = subprocess.Popen([*self.within, self.trial.program, 'run'], stdin=subprocess.PIPE, stdout=self.output, stderr=self.errors,
+                                      env=self.environment)
         try:
             self.child.stdin.write(self.configuration.encode())
             self.child.stdin.close()
@@ -207,6 +210,14 @@ class Node:
     def said(self):
         """Returns what it wrote on standard error."""
         return os.pread(self.errors.fileno(), 1 << 24, 0)
+
+    def logged(self, event=None, **keys):
+        """Returns what its log says: of all events or of one, with these values of keys."""
+        return chosen(all_said(self.said()), event, keys)
+
+    def logs(self, event, times=1, seconds=2, **keys):
+        """Waits until its log says an event with these values of keys so often, and returns what it says of it then."""
+        return wait(lambda: len(found := self.logged(event, **keys)) >= times and found, seconds, 'the log says %s' % event, self.said)
 
     # --- Its end
 

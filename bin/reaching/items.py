@@ -7,7 +7,7 @@ TOKEN = re.compile(
     re.S,
 )
 # Types of std that are taken for what they hold, and those that are taken for lists of it.
-TRANSPARENT = {"Box", "Mutex", "MutexGuard"}
+TRANSPARENT = {"Arc", "Box", "Mutex", "MutexGuard"}
 LISTS = {"Vec", "VecDeque", "Iter"}
 
 

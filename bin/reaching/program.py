@@ -143,8 +143,8 @@ class Program:
             return ("any", names[0], scope.generics[names[0]]) if len(names) == 1 else None
         if found := self.lookup(scope.module, names):
             return self.named_type(found[1], arguments)
-        if names[-1] in TRANSPARENT:
-            return arguments[-1]
+        if names[-1] in TRANSPARENT:  # The type behind that of an Arc is its allocator's.
+            return arguments[0 if names[-1] == "Arc" else -1]
         if names[-1] in LISTS:
             return ("list", arguments[0])
         return ("type", names[-1], arguments) if arguments else PLAIN

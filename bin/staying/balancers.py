@@ -4,15 +4,17 @@ import shutil
 import tempfile
 import time
 
+from peering.far import OLDER_VERSION, hello, kept_open, status_of
 from peering.members import HAProxy, NodeMember
 from peering.node import fields
 from peering.trial import Skipped, check, equal, require, wait
 
 
 class Pair:
-    """A HAProxy and a node. Either of them, or both, know where the other listens."""
+    """A HAProxy and a node. Either of them, or both, know where the other listens. `changes` are texts of the HAProxy's configuration,
+    each with the one that stands there instead."""
 
-    def __init__(self, trial, to_node=True, to_balancer=True):
+    def __init__(self, trial, to_node=True, to_balancer=True, changes=()):
         binary = shutil.which('haproxy') or shutil.which('haproxy', path='/usr/sbin:/usr/local/sbin')
         if binary is None:
             raise Skipped('no haproxy')
@@ -23,10 +25,23 @@ class Pair:
         self.balancer = trial.closes(HAProxy('h', folder, ports.next(), ports, binary))
         self.node = trial.closes(NodeMember('n', folder, ports.next(), ports, trial.program))
         nowhere = ports.next()
-        self.balancer.configure((('h', self.balancer.port), ('n', self.node.port if to_node else nowhere)))
+        self.known = (('h', self.balancer.port), ('n', self.node.port if to_node else nowhere))
+        self.configure(changes)
         self.node.configure((('h', self.balancer.port if to_balancer else nowhere), ('n', self.node.port)))
         self.balancer.start()
         self.node.start()
+
+    def configure(self, changes=()):
+        """Writes the HAProxy's configuration."""
+        self.balancer.configure(self.known)
+        with open(self.balancer.file('.cfg'), 'r+') as file:
+            text = file.read()
+            for old, new in changes:
+                require(old in text, 'the configuration of HAProxy has', old)
+                text = text.replace(old, new)
+            file.seek(0)
+            file.truncate()
+            file.write(text)
 
     def close(self):
         shutil.rmtree(self.folder, ignore_errors=True)
@@ -38,6 +53,13 @@ class Pair:
     def connected(self):
         wait(lambda: self.node.connected_to() == {'h'}, 12, 'the node is connected', lambda: self.node.ask('show peers'))
         wait(lambda: self.balancer.connected_to() == {'n'}, 12, 'the HAProxy is connected')
+
+    def brings_to_version_2_0(self):
+        """Has the HAProxy take the node for a peer of version 2.0, until one of 2.1 comes: so it does after a hello of 2.0 in one piece."""
+        peer = kept_open(('127.0.0.1', self.balancer.port))
+        peer.sendall(hello('h', 'n', OLDER_VERSION))
+        equal(status_of(peer), b'200\n', 'the answer of the HAProxy to a hello of version 2.0')
+        peer.close()
 
     def counts(self, member, key, times):
         """Lets a member count a key, and waits until both have the row."""
@@ -84,6 +106,24 @@ def haproxy_that_is_connected_to(trial):
 def haproxy_that_connects(trial):
     """a session that a HAProxy opened lasts while it has nothing to say, and rows go both ways"""
     stands_idle(Pair(trial, to_balancer=False))
+
+
+@check
+def haproxy_of_version_2_0(trial):
+    """a session that a HAProxy opened in version 2.0 lasts while it has nothing to say, rows go both ways, and a node asks it for all"""
+    pair = Pair(trial, to_balancer=False)
+    pair.connected()
+    equal(pair.line()['version'], '2.1', 'the version at first')
+    pair.brings_to_version_2_0()
+    wait(lambda: pair.line()['version'] == '2.0', 20, 'the HAProxy connects with version 2.0', pair.line)
+    stands_idle(pair)
+    pair.node.kill()
+    pair.node.start()
+    pair.connected()
+    equal(pair.line()['version'], '2.0', 'the version after the node was killed')
+    pair.has_rows(3, 'the node was killed')
+    pair.counts(pair.node, 3, 2)
+    pair.counts(pair.balancer, 4, 2)
 
 
 @check

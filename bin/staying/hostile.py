@@ -89,8 +89,8 @@ def log_of_tables_passed_over(trial):
             still_learns(node, far, 2 * times + value)
             time.sleep(1.2)
         far.close()
-        wait(lambda: node.said().count(b'peer b down end\n') == times, 2, 'the session is over', node.said)
-        equal(node.said().count(b'peer b table passed over\n'), times, 'lines about tables')
+        node.logs('ended', times, peer='b', end='end')
+        equal(len(node.logged('passed-over', peer='b')), times, 'lines about tables')
     require(b'#' not in node.said(), 'no table is named', node.said())
 
 
@@ -137,7 +137,7 @@ def faulty(node, far, data, answer, fault, ends=1):
     far.ends(2)
     wait(lambda: node.peer('b')['last_end'] == 'fault', 2, 'the end is a fault', lambda: node.peer('b'))
     node.shows('digbaro_faults_total{fault="%s"}' % fault, ends)
-    wait(lambda: fault.encode() in node.said(), 2, 'the fault is named on standard error', node.said)
+    node.logs('fault', peer='b', fault=fault)
 
 
 @check

@@ -2,7 +2,10 @@
 
 import contextlib
 import http.client as http_client
+import os
 import re
+import shutil
+import subprocess
 import threading
 import time
 
@@ -10,12 +13,16 @@ from fuzzing.messages import acknowledgement
 from peering.far import CONFIRMED, FINISHED, REQUEST, Manners, connected, hello, kept_open
 from peering.lessons import definition, table, update
 from peering.node import FIRST_MOMENT, T1, Node, reply
-from peering.trial import between, check, equal, matches, require, wait
+from peering.trial import PATIENCE, Skipped, between, check, equal, matches, require, wait
 from staying.resyncs import long_rows, tracked
 from staying.sessions import node_of_b, up_to_date
 
 KINDS = ('table 1 t1 integer 4 30000 gpc0', 'table 2 v4 ipv4 4 0 gpc0', 'table 3 v6 ipv6 16 0 gpc0', 'table 4 st string 9 0 gpc0 server_key',
          'table 5 bin binary 3 0 bytes_in_cnt', 'table 6 r integer 4 0 gpc0_rate:10000')
+
+
+# The man page of `run`.
+MANUAL = os.path.join(os.path.dirname(os.path.abspath(__file__)), '../../docs/peers_node.8')
 
 
 def alone(trial, tables=KINDS, **other):
@@ -179,7 +186,7 @@ def other_methods(trial):
     node = alone(trial)
     methods = 'POST PUT DELETE PATCH OPTIONS TRACE get Get GET! head HEADS stop track show 7 \xff'.split(' ')
     for line in ['%s / HTTP/1.1' % method for method in methods] + [
-            'OPTIONS * HTTP/1.1', 'CONNECT 127.0.0.1:9100 HTTP/1.1', 'POST http://127.0.0.1:9100/ HTTP/1.1', 'POST /metrics HTTP/1.0', 'POST / HTTP/2',
+            'OPTIONS * HTTP/1.1', 'CONNECT 127.0.0.1:9101 HTTP/1.1', 'POST http://127.0.0.1:9101/ HTTP/1.1', 'POST /metrics HTTP/1.0', 'POST / HTTP/2',
             'POST stop HTTP/', 'PRI * HTTP/2.0', 'show table HTTP/1.1', 'stop stop HTTP/stop', 'POST / HTTP/1.1\rstop']:
         for data in with_body(line):
             equal(is_page(answer_to(node, data), 405, repr(data), 'GET, HEAD'), '', 'the body of the answer to %r' % data)
@@ -535,16 +542,108 @@ def stop_teaches_first(trial):
         far.gets_row('t1', key, (1,), 1)
 
 
+def tracked_until_it_stops(node, first, found):
+    """Tracks one key after another, from `first` on, until the node closes the connection, and notes those that were answered."""
+    client, sent, answers_ = node.admin(), 0, b''
+    with contextlib.suppress(OSError):
+        came = b'begins'
+        while came:
+            if answers_.count(b'\n') == sent:
+                client.send(''.join('track t1 %d add gpc0 1\n' % key for key in range(first + sent, first + sent + 10)))
+                sent += 10
+            came = client.peer.recv(1 << 16)
+            answers_ += came
+    found.extend(range(first, first + answers_.count(b'local\n')))
+
+
 @check
-def stop_waits_a_second(trial):
-    """stop waits for a peer that doesn't acknowledge, but not for long"""
-    node = node_of_b(trial, tables=(T1,))
-    far = connected(trial, node, manners=Manners(acks='none'))
+def stop_loses_nothing(trial):
+    """each change that was answered is at the peers when the node has ended, also while clients go on tracking"""
+    for _ in range(3):
+        node, found = node_of_b(trial, tables=(T1,)), []
+        far = connected(trial, node)
+        up_to_date(node)
+        threads = [threading.Thread(target=tracked_until_it_stops, args=(node, place * 1_000_000, found)) for place in range(8)]
+        for thread in threads:
+            thread.start()
+        time.sleep(0.7)
+        between(0, node.stop(), 5, 'seconds until it has ended')
+        for thread in threads:
+            thread.join()
+        far.ends(2)
+        require(len(found) > 100, 'changes that were answered:', len(found))
+        rows = far.rows('t1')
+        equal([key for key in found if key.to_bytes(4, 'big') not in rows], [], 'keys that were answered and are not at the peer')
+
+
+@check
+def stop_of_a_young_session(trial):
+    """a session that has just begun teaches what was answered too before it ends"""
+    node = node_of_b(trial, peers=('b', 'c'), tables=(T1,))
+    connected(trial, node, 'c')
     up_to_date(node)
-    node.ask('track t1 7 add gpc0 1')
-    far.gets_row('t1', 7, (1,))
-    between(0.9, node.stop(), 3, 'seconds until it has ended')
+    admin = node.admin()
+    far = connected(trial, node)
+    wait(lambda: admin.ask('show peers')[1].startswith('peer b state=ready '), 1, 'the session begins', pause=0)
+    equal(admin.ask('track t1 7 add gpc0 1'), 'reply 1 - 7 1 local', 'a track')
+    between(0, node.stop(), 2, 'seconds until it has ended')
+    far.gets_row('t1', 7, (1,), 1)
+
+
+def behind(trial):
+    """Returns a node and its peer, which has acknowledged a row of t1 and no further ones since: one is sent, and 598 wait for that."""
+    node = node_of_b(trial, tables=(T1,))
+    far = connected(trial, node)
+    up_to_date(node)
+    node.ask('track t1 0 add gpc0 1')
+    wait(lambda: node.shared('b', 't1')['acknowledged'] == '1', 2, 'the first row is acknowledged')
+    far.manners = Manners(acks='none')
+    node.ask('track t1 1 add gpc0 1')
+    far.gets_row('t1', 1, (1,), 2)
+    tracked(node, 't1', range(2, 600))
+    return node, far
+
+
+@check
+def stop_waits_for_the_slow(trial):
+    """a peer that acknowledges 1.5 s after a stop gets what was answered before"""
+    node, far = behind(trial)
+    begun = time.monotonic()
+    equal(node.ask('stop'), 'ok', 'the answer to stop')
+    time.sleep(1.5)
+    far.manners = Manners()
+    far.send(acknowledgement(1, 2))
+    equal(node.child.wait(PATIENCE), 0, 'the status')
+    between(1.5, time.monotonic() - begun, 4, 'seconds until it has ended')
+    equal(len(far.rows('t1')), 600, 'rows that came')
+
+
+@check
+def stop_waits_3_seconds(trial):
+    """stop waits 3 s for a peer that doesn't acknowledge, and no longer"""
+    node, far = behind(trial)
+    between(2.9, node.stop(), 5, 'seconds until it has ended')
     far.ends(1)
+
+
+@check
+def stopped_by_a_shell(trial):
+    """the lines for a unit in the man page stop a node, and wait for its end"""
+    if shutil.which('bash') is None:
+        raise Skipped('there is no bash')
+    node = node_of_b(trial, tables=(T1,))
+    far = connected(trial, node)
+    up_to_date(node)
+    tracked(node, 't1', range(1000))
+    with open(MANUAL) as file:
+        text = file.read().replace('\\e\n', '\\\n')
+    line, = re.findall(r"^ExecStop=/bin/bash -c '([^']*)'$", text, re.M)
+    require('/127.0.0.1/9101 ' in line, 'the port in the man page:', line)
+    words = ['bash', '-c', line.replace('\\\n', '').replace('9101', str(node.admin_port))]
+    shell = subprocess.Popen(words, env={**os.environ, 'MAINPID': str(node.child.pid)}, stderr=subprocess.DEVNULL)
+    equal(node.child.wait(5), 0, 'the status of the node')
+    shell.wait(2)
+    far.gets_row('t1', 999, (1,), 1)
 
 
 @check
@@ -646,8 +745,10 @@ def stops_while_it_learns(trial):
 
 
 FAMILIES = ['haproxy_' + name for name in 'sticktable_size sticktable_used process_active_peers process_connected_peers'.split()] + [
-    'digbaro_' + name for name in 'peer_up sessions_total rows_learned_total rows_taught_total bytes_sent_total bytes_received_total '
-    'resyncs_total tables_left passed_over_total faults_total table_events_total table_next_number uptime_seconds'.split()]
+    'digbaro_' + name for name in 'peer_up peer_last_error sessions_total rows_learned_total rows_taught_total bytes_sent_total bytes_received_total '
+    'resyncs_total tables_left passed_over_total faults_total table_events_total table_next_number uptime_seconds up_to_date peer_lag_rows '
+    'peer_lag_seconds rows_displaced_total hellos_refused_total tables_mismatched log_lines_dropped_total build_info'.split()] + [
+    'process_' + name for name in 'resident_memory_bytes open_fds start_time_seconds cpu_seconds_total'.split()]
 
 
 @check
@@ -674,7 +775,9 @@ def metrics(trial):
     for name, value in (('haproxy_sticktable_size{name="t1",type="integer"}', 1000000), ('haproxy_sticktable_used{name="t1",type="integer"}', 1),
                         ('haproxy_sticktable_used{name="v4",type="ip"}', 0), ('haproxy_process_active_peers', 1),
                         ('haproxy_process_connected_peers', 1), ('digbaro_peer_up{peer="b"}', 1), ('digbaro_peer_up{peer="c"}', 0),
-                        ('digbaro_table_next_number{name="t1"}', 2)):
+                        ('digbaro_table_next_number{name="t1"}', 2), ('digbaro_up_to_date', 1), ('digbaro_log_lines_dropped_total', 0),
+                        ('digbaro_hellos_refused_total{status="504"}', 0), ('digbaro_tables_mismatched{peer="b"}', 0),
+                        ('digbaro_peer_lag_rows{peer="c",name="v4"}', 0), ('digbaro_rows_displaced_total{name="t1"}', 0)):
         equal(float(values.get(name, -1)), value, name)
     between(0, float(values['digbaro_uptime_seconds']), node.moment() / 1000 - FIRST_MOMENT / 1000 + 1, 'the uptime')
     for name in ('digbaro_bytes_sent_total', 'digbaro_bytes_received_total'):

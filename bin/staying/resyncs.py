@@ -225,8 +225,8 @@ def asks_past_the_mute(trial):
     equal([far.count(REQUEST) for far in mute + [able]], [1, 1, 1], 'requests')
     for far in mute + [able]:
         far.stands()
-    said = node.said()
-    equal([said.count(b'peer %s unanswered\n' % name) for name in (b'b', b'c', b'd')], [1, 1, 0], 'lines of peers that did not answer')
+    equal([[len(node.logged(event, peer=name)) for name in 'bcd'] for event in ('asked', 'unanswered')], [[1, 1, 1], [1, 1, 0]],
+          'lines of peers that were asked, and of those that did not answer')
 
 
 @check
@@ -235,7 +235,7 @@ def late_answer(trial):
     node = node_of_b(trial)
     far = connected(trial, node, manners=KEEPS_QUIET)
     begun = far.gets(REQUEST, 2)
-    wait(lambda: b'peer b unanswered\n' in node.said(), 7, 'the log says so', node.said)
+    node.logs('unanswered', seconds=7, peer='b')
     between(4.9, time.monotonic() - begun, 6.5, 'seconds until it does')
     equal(node.head()['up_to_date'], 'no', 'up to date')
     there = table(9, 't1')
@@ -261,10 +261,45 @@ def rows_keep_the_wait(trial):
     for number in range(1, 5):
         time.sleep(3)
         far.send(update(there, number, number, (1,)))
-    equal((other.count(REQUEST), b'unanswered' in node.said()), (0, False), 'requests to the other peer, and whether the log gives up')
+    equal((other.count(REQUEST), node.logged('unanswered')), (0, []), 'requests to the other peer, and what the log says of those given up')
     far.send(FINISHED)
     up_to_date(node)
     equal(other.count(REQUEST), 0, 'requests to the other peer')
+
+
+@check
+def rows_of_other_tables(trial):
+    """a peer that was asked and teaches a table that the node lacks is waited for, and no other is asked"""
+    node = node_of_b(trial, peers=('b', 'c'))
+    far = connected(trial, node, manners=KEEPS_QUIET)
+    far.gets(REQUEST, 2)
+    other = connected(trial, node, 'c')
+    there = table(9, 'lacking')
+    far.send(definition(there))
+    for number in range(1, 9):
+        time.sleep(1)
+        far.send(update(there, number, number, (1,)))
+    equal((far.count(REQUEST), other.count(REQUEST), node.logged('unanswered')), (1, 0, []), 'requests, and what the log says of those given up')
+    far.send(FINISHED)
+    up_to_date(node)
+    equal(other.count(REQUEST), 0, 'requests to the other peer')
+
+
+@check
+def mute_but_acknowledging(trial):
+    """a peer that was asked, and acknowledges what it is taught but teaches nothing, is waited for for 5 s all the same"""
+    node = node_of_b(trial, peers=('b', 'c'), tables=(T1,))
+    equal(node.ask('track t1 0 add gpc0 1'), 'reply 1 - 0 1 local', 'a track')
+    far = connected(trial, node, manners=KEEPS_QUIET)
+    begun = far.gets(REQUEST, 2)
+    other = connected(trial, node, 'c')
+    for key in range(1, 10):
+        time.sleep(0.4)
+        node.ask('track t1 %d add gpc0 1' % key)
+        far.gets_row('t1', key, (1,), 2)
+    wait(lambda: node.shared('b', 't1')['acknowledged'] == '10', 1, 'all is acknowledged', lambda: node.shared('b', 't1'))
+    node.logs('unanswered', seconds=4, peer='b')
+    between(4.9, other.gets(REQUEST, 2) - begun, 6.5, 'seconds until the other peer is asked')
 
 
 @check

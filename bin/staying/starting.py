@@ -1,12 +1,13 @@
 """How a node that stays starts: its configuration, its ports, its command line."""
 
+import contextlib
 import os
 import socket
 import subprocess
 import sys
 import time
 
-from peering.far import Door
+from peering.far import Door, hello, kept_open
 from peering.node import T1, Node, address
 from peering.trial import PATIENCE, Skipped, between, check, equal, require, wait
 
@@ -47,12 +48,14 @@ def refused_configurations(trial):
 
 @check
 def checked_configurations(trial):
-    """--check of a configuration that keeps the rules opens no port and prints nothing"""
+    """--check of a configuration that keeps the rules opens no port, and prints nothing but warnings"""
     with socket.socket() as taken:
         taken.bind(('127.0.0.1', trial.ports.next()))
         taken.listen()
         port = taken.getsockname()[1]
-        ends(trial, ('run', '--check'), NEEDED % port + b'admin 127.0.0.1:%d\npeer b 127.0.0.1:9\n' % port, 0, b'')
+        ends(trial, ('run', '--check'), NEEDED % port + b'admin 127.0.0.1:%d\npeer b 127.0.0.1:9\n' % (port - 1), 0, b'')
+        ends(trial, ('run', '--check'), NEEDED % port + b'admin 127.0.0.1:%d\npeer b 127.0.0.1:9\n' % port, 0,
+             b'line 4: warning: admin: line 2 has this port for peers, and requests have one of their own\n')
 
 
 @check
@@ -62,10 +65,10 @@ def other_words(trial):
         ends(trial, words, NEEDED % trial.ports.next(), 2, None)
 
 
-def port_taken(trial, lines):
-    """Checks that a node ends with `device` and never connects to its peer."""
+def port_taken(trial, lines, said):
+    """Checks that a node says what it can't have, and never connects to its peer."""
     door = Door(trial)
-    ends(trial, ('run',), lines + T1.encode() + b'\npeer b %s\n' % address(door.port).encode(), 4, b'device\n')
+    ends(trial, ('run',), lines + T1.encode() + b'\npeer b %s\n' % address(door.port).encode(), 4, said)
     time.sleep(0.3)
     equal(door.tries, [], 'connections of a node that could not start')
 
@@ -76,14 +79,17 @@ def taken_port(trial):
     with socket.socket() as taken:
         taken.bind(('127.0.0.1', trial.ports.next()))
         taken.listen()
-        port_taken(trial, b'node n\nlisten 127.0.0.1:%d\n' % taken.getsockname()[1])
-        port_taken(trial, b'node n\nlisten 127.0.0.1:%d\nadmin 127.0.0.1:%d\n' % (trial.ports.next(), taken.getsockname()[1]))
+        port = taken.getsockname()[1]
+        port_taken(trial, b'node n\nlisten 127.0.0.1:%d\n' % port, b'listen 127.0.0.1:%d: Address already in use\n' % port)
+        port_taken(trial, b'node n\nlisten 127.0.0.1:%d\nadmin 127.0.0.1:%d\n' % (trial.ports.next(), port),
+                   b'admin 127.0.0.1:%d: Address already in use\n' % port)
 
 
 @check
 def foreign_address(trial):
     """an address that isn't this host's can't be had"""
-    port_taken(trial, b'node n\nlisten 203.0.113.1:%d\n' % trial.ports.next())
+    port = trial.ports.next()
+    port_taken(trial, b'node n\nlisten 203.0.113.1:%d\n' % port, b'listen 203.0.113.1:%d: Cannot assign requested address\n' % port)
 
 
 # Runs a program as another user, who may have only so many threads; root may have any number.
@@ -115,13 +121,34 @@ def too_few_threads(trial):
             require(False, 'it does not end with %d threads' % threads)
         return run.returncode, run.stdout, run.stderr
 
-    if run(9, '--check') != (0, b'', b''):
+    if run(9, '--check')[0] != 0:
         raise Skipped('another user cannot run the program')
     # One thread keeps the log, one the tables, fifteen the peers, and four the doors.
     for threads in (1, 2, 3, 10, 17, 18, 19, 20):
-        equal(run(threads), (4, b'', b'device\n'), 'the end with %d threads' % threads)
+        equal(run(threads), (4, b'', b'threads: Resource temporarily unavailable\n'), 'the end with %d threads' % threads)
     time.sleep(0.3)
     equal(door.tries, [], 'connections of a node that could not start')
+
+
+@check
+def session_without_a_thread(trial):
+    """a session for which no thread can be started ends, and the log says so, whoever made the connection"""
+    if os.getuid() != 0:
+        raise Skipped('not root')
+    door = Door(trial)
+    node = Node(trial, peers=('b', 'c ' + address(door.port)), admin=False)
+    # One thread keeps the log, one the tables, two the peers, and four the doors, beside the first.
+    node.within = (sys.executable, '-c', FEW_THREADS, str(60_000 + door.port), '9')
+    node.may_end = True
+    node.launch()
+    with contextlib.suppress(subprocess.TimeoutExpired):
+        raise Skipped('another user cannot run the program: status %s' % node.child.wait(1))
+    wait(node.listens, PATIENCE, 'the node listens', node.said)
+    for name in 'cb':
+        if name == 'b':
+            trial.closes(kept_open((node.host, node.port))).sendall(hello('n', 'b'))
+        said, = node.logs('ended', seconds=5, peer=name)
+        equal((said.level, said.keys['end']), ('warn', 'error'), 'the end of a session')
 
 
 @check
@@ -150,7 +177,8 @@ def in_less_and_less_memory(trial):
         if status == -11:  # The stack has no room to grow.
             stackless += 1
             continue
-        require((status, node.said()) in ((3, b'memory\n'), (4, b'device\n')), 'the end in %d MB:' % megabytes, status, node.said())
+        require((status, node.said()) in ((3, b'memory\n'), (4, b'threads: Resource temporarily unavailable\n')), 'the end in %d MB:' % megabytes,
+                status, node.said())
         lacking += 1
     require(worked and lacking and stackless <= 4, 'sizes that work, in which something is missing, and without a stack:', worked, lacking, stackless)
 

@@ -1,9 +1,13 @@
 pub mod Answers
+pub mod DefinitionWords
 pub mod HttpRequests
 pub mod Idle
+pub mod LagMetrics
 pub mod Metrics
 pub mod Pages
 pub mod PeerMetrics
+pub mod ProcessMetrics
+pub mod ProcessTexts
 pub mod Reports
 pub mod RequestKeys
 pub mod RequestWords

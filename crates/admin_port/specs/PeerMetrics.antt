@@ -1,9 +1,11 @@
 -- The families of metrics that have samples for each peer (profile).
-use Rattle.std.specs.Prelude.{◌++◌, ℕ, Bool, true, false, List, [], ◌∷◌, codes, flat_map}
-use Rattle.admin_port.specs.Reports.{end_name}
+use Rattle.std.specs.Prelude.{◌++◌, ℕ, Bool, true, false, List, [], ◌∷◌, Option, None, Some, codes, flat_map}
+use Rattle.node_core.specs.declared.last_errors.LastError.{LastError}
+use Rattle.node_core.specs.SessionEnds.{end_name}
+use Rattle.admin_port.specs.Reports.{last_error_text}
 use Rattle.admin_port.specs.Samples.{family_head, sample_line}
-use Rattle.admin_port.specs.declared.reports.SessionEnd.{SessionEnd}
-use Rattle.admin_port.specs.declared.reports.SessionEnd.TheVariants as ends
+use Rattle.node_core.specs.declared.session_ends.SessionEnd.{SessionEnd}
+use Rattle.node_core.specs.declared.session_ends.SessionEnd.TheVariants as ends
 use Rattle.admin_port.specs.declared.peer_metrics.PeerMetrics.{PeerMetrics}
 use Rattle.admin_port.specs.declared.peer_metrics.ResyncsEnded.{ResyncsEnded}
 
@@ -20,6 +22,21 @@ unfoldable pub peers_up : List PeerMetrics → List ℕ
 peers_up ps =
     family_head (codes "digbaro_peer_up") (codes "gauge") (codes "Whether there is a session with this peer.")
     ++ flat_map up_sample ps
+
+-- ---- why there is no session
+
+abbrev pub last_error_of : List ℕ → Option LastError → List ℕ
+last_error_of peer None = []
+last_error_of peer (Some e) =
+    sample_line (codes "digbaro_peer_last_error") ((codes "peer", peer) ∷ (codes "error", last_error_text (Some e)) ∷ []) 1
+
+unfoldable pub last_error_sample : PeerMetrics → List ℕ
+last_error_sample p = last_error_of p.name.now p.last_error
+
+unfoldable pub last_errors : List PeerMetrics → List ℕ
+last_errors ps =
+    family_head (codes "digbaro_peer_last_error") (codes "gauge") (codes "Why there is no session with this peer.")
+    ++ flat_map last_error_sample ps
 
 -- ---- sessions
 
@@ -59,5 +76,15 @@ resyncs_family ps =
     family_head (codes "digbaro_resyncs_total") (codes "counter") (codes "Resyncs with this peer that ended so, by the role of this node.")
     ++ flat_map resyncs_of ps
 
+-- ---- tables that a peer defines otherwise
+
+unfoldable pub mismatched_sample : PeerMetrics → List ℕ
+mismatched_sample p = sample_line (codes "digbaro_tables_mismatched") ((codes "peer", p.name.now) ∷ []) p.mismatched
+
+unfoldable pub mismatched_family : List PeerMetrics → List ℕ
+mismatched_family ps =
+    family_head (codes "digbaro_tables_mismatched") (codes "gauge") (codes "Tables that this peer defines otherwise than this node.")
+    ++ flat_map mismatched_sample ps
+
 abbrev pub peer_families : List PeerMetrics → List ℕ
-peer_families ps = peers_up ps ++ (sessions_family ps ++ resyncs_family ps)
+peer_families ps = peers_up ps ++ (last_errors ps ++ (sessions_family ps ++ (resyncs_family ps ++ mismatched_family ps)))

@@ -2,15 +2,19 @@
 use Rattle.std.specs.Prelude.{◌++◌, ℕ, Bool, true, false, List, [], ◌∷◌, Option, Some, None, codes, flat_map}
 use Rattle.std.specs.Fmt.{decimal}
 use Rattle.node_text.specs.Numbers.{number_or_dash}
+use Rattle.node_core.specs.declared.differences.Difference.{Difference}
+use Rattle.node_core.specs.declared.differences.Difference.TheVariants as differences
+use Rattle.node_core.specs.declared.last_errors.LastError.{LastError}
+use Rattle.node_core.specs.declared.last_errors.LastError.TheVariants as errors
 use Rattle.node_text.specs.Versions.{version_name}
+use Rattle.node_core.specs.SessionEnds.{end_name}
+use Rattle.node_core.specs.declared.session_ends.SessionEnd.{SessionEnd}
 use Rattle.table_types.specs.declared.version.Version.{Version}
 use Rattle.admin_port.specs.TableNames.{shown_name}
 use Rattle.admin_port.specs.declared.reports.PeerState.{PeerState}
 use Rattle.admin_port.specs.declared.reports.PeerState.TheVariants as states
 use Rattle.admin_port.specs.declared.reports.PeerRole.{PeerRole}
 use Rattle.admin_port.specs.declared.reports.PeerRole.TheVariants as roles
-use Rattle.admin_port.specs.declared.reports.SessionEnd.{SessionEnd}
-use Rattle.admin_port.specs.declared.reports.SessionEnd.TheVariants as ends
 use Rattle.admin_port.specs.declared.reports.PeerReport.{PeerReport}
 use Rattle.admin_port.specs.declared.reports.PeerTableReport.{PeerTableReport}
 
@@ -32,14 +36,6 @@ role_text (Some roles.Connect) = codes "connect"
 role_text (Some roles.Accept) = codes "accept"
 role_text None = codes "-"
 
-abbrev pub end_name : SessionEnd → List ℕ
-end_name ends.End = codes "end"
-end_name ends.Silent = codes "silent"
-end_name ends.Fault = codes "fault"
-end_name ends.Replaced = codes "replaced"
-end_name ends.Device = codes "device"
-end_name ends.Error = codes "error"
-
 -- why the last session ended, or `-` if none did
 abbrev pub end_text : Option SessionEnd → List ℕ
 end_text None = codes "-"
@@ -49,6 +45,24 @@ end_text (Some end) = end_name end
 abbrev pub version_text : Option Version → List ℕ
 version_text None = codes "-"
 version_text (Some version) = version_name version
+
+-- why there is no session, with the status of a refusal, or `-` if no attempt showed it
+abbrev pub last_error_text : Option LastError → List ℕ
+last_error_text None = codes "-"
+last_error_text (Some errors.Unreachable) = codes "unreachable"
+last_error_text (Some (errors.Refused status)) = codes "refused-" ++ decimal status
+last_error_text (Some (errors.HelloRefused status)) = codes "hello-refused-" ++ decimal status
+
+abbrev pub difference_name : Difference → List ℕ
+difference_name differences.Kind = codes "kind"
+difference_name differences.Length = codes "length"
+difference_name differences.Types = codes "types"
+difference_name differences.Period = codes "period"
+
+-- what the peer defines otherwise, or `-` if nothing
+abbrev pub difference_text : Option Difference → List ℕ
+difference_text None = codes "-"
+difference_text (Some difference) = difference_name difference
 
 -- ---- lines
 
@@ -69,11 +83,21 @@ unfoldable pub end_and_version_text : PeerReport → List ℕ
 end_and_version_text p =
     codes " last_end=" ++ (end_text p.last_end ++ (codes " version=" ++ version_text p.version))
 
+-- why there is no session with a peer, how many rows it lacks, and how many tables it defines otherwise
+unfoldable pub troubles_text : PeerReport → List ℕ
+troubles_text p =
+    codes " last_error=" ++ (last_error_text p.last_error ++ (codes " lag=" ++ (decimal p.lag
+    ++ (codes " mismatched=" ++ decimal p.mismatched))))
+
+-- what stands behind the numbers of a peer
+unfoldable pub present_text : PeerReport → List ℕ
+present_text p = end_and_version_text p ++ troubles_text p
+
 -- the line of a peer
 unfoldable pub peer_line : PeerReport → List ℕ
 peer_line p =
     codes "peer " ++ (p.name.now ++ (codes " state=" ++ (state_name p.state ++ (codes " role=" ++ (role_text p.role
-    ++ (counts_text p ++ (end_and_version_text p ++ 10 ∷ [])))))))
+    ++ (counts_text p ++ (present_text p ++ 10 ∷ [])))))))
 
 -- the numbers of a table in a session
 unfoldable pub numbers_text : PeerTableReport → List ℕ
@@ -81,11 +105,15 @@ numbers_text t =
     codes " taught=" ++ (decimal t.taught ++ (codes " acknowledged=" ++ (decimal t.acknowledged
     ++ (codes " received=" ++ number_or_dash t.received))))
 
+-- whether a table was left, and what of it the peer defines otherwise
+unfoldable pub left_and_mismatch_text : PeerTableReport → List ℕ
+left_and_mismatch_text t = codes " left=" ++ (yes_or_no t.left ++ (codes " mismatch=" ++ difference_text t.mismatch))
+
 -- the line of a table in the session with a peer
 unfoldable pub table_line : Option (List ℕ) → List ℕ → PeerTableReport → List ℕ
 table_line section peer t =
     codes "table " ++ (peer ++ (codes " " ++ (shown_name section t.table.now.name ++ (numbers_text t
-    ++ (codes " left=" ++ (yes_or_no t.left ++ 10 ∷ []))))))
+    ++ (left_and_mismatch_text t ++ 10 ∷ [])))))
 
 -- the line of a peer, and those of the tables of its session
 unfoldable pub peer_lines : Option (List ℕ) → PeerReport → List ℕ

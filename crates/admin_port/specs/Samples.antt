@@ -1,5 +1,5 @@
 -- Samples of metrics (Prometheus, text format 0.0.4).
-use Rattle.std.specs.Prelude.{◌++◌, ◌==◌, ◌||◌, ◌&&◌, ℕ, List, [], ◌∷◌, codes, flat_map, if◌then◌else◌, map, nat_le}
+use Rattle.std.specs.Prelude.{◌+◌, ◌/◌, ◌%◌, ◌++◌, ◌==◌, ◌||◌, ◌&&◌, ℕ, List, [], ◌∷◌, codes, flat_map, if◌then◌else◌, map, nat_le}
 use Rattle.std.specs.Fmt.{decimal}
 use Rattle.admin_port.specs.declared.samples.Label.{Label}
 
@@ -29,6 +29,19 @@ labels_text (l ∷ ls) = 123 ∷ (label_text l ++ (more_labels ls ++ 125 ∷ [])
 -- the line of a sample
 unfoldable pub sample_line : List ℕ → List (List ℕ × List ℕ) → ℕ → List ℕ
 sample_line name labels value = name ++ (labels_text labels ++ (32 ∷ (decimal value ++ 10 ∷ [])))
+
+-- the last digit of a number (48 is `0`)
+abbrev pub digit : ℕ → ℕ
+digit number = 48 + number % 10
+
+-- a number of milliseconds in seconds, with three places behind the point (46)
+unfoldable pub in_seconds : ℕ → List ℕ
+in_seconds milliseconds =
+    decimal (milliseconds / 1000) ++ 46 ∷ digit (milliseconds / 100) ∷ digit (milliseconds / 10) ∷ digit milliseconds ∷ []
+
+-- the line of a sample whose value is a time
+unfoldable pub seconds_line : List ℕ → List (List ℕ × List ℕ) → ℕ → List ℕ
+seconds_line name labels milliseconds = name ++ (labels_text labels ++ (32 ∷ (in_seconds milliseconds ++ 10 ∷ [])))
 
 -- the name and the value of a label as the code has it
 abbrev pub pair_of : Label → List ℕ × List ℕ

@@ -24,18 +24,21 @@ column_name columns.Size = codes "haproxy_sticktable_size"
 column_name columns.Used = codes "haproxy_sticktable_used"
 column_name columns.Events = codes "digbaro_table_events_total"
 column_name columns.NextNumber = codes "digbaro_table_next_number"
+column_name columns.Displaced = codes "digbaro_rows_displaced_total"
 
 abbrev pub column_kind : Column → List ℕ
 column_kind columns.Size = codes "gauge"
 column_kind columns.Used = codes "gauge"
 column_kind columns.Events = codes "counter"
 column_kind columns.NextNumber = codes "gauge"
+column_kind columns.Displaced = codes "counter"
 
 abbrev pub column_help : Column → List ℕ
 column_help columns.Size = codes "Stick table size."
 column_help columns.Used = codes "Number of entries used in this stick table."
 column_help columns.Events = codes "Events of this table."
 column_help columns.NextNumber = codes "Number that the next change of this table takes."
+column_help columns.Displaced = codes "Rows of this table that new ones displaced, since it was full."
 
 -- the sample of a table
 unfoldable pub column_sample : Option (List ℕ) → Column → TableMetrics → List ℕ
@@ -43,6 +46,7 @@ column_sample section columns.Size t = typed_sample (column_name columns.Size) s
 column_sample section columns.Used t = typed_sample (column_name columns.Used) section t.table.now t.used
 column_sample section columns.Events t = named_sample (column_name columns.Events) section t.table.now t.events
 column_sample section columns.NextNumber t = named_sample (column_name columns.NextNumber) section t.table.now t.next_number
+column_sample section columns.Displaced t = named_sample (column_name columns.Displaced) section t.table.now t.displaced
 
 -- ---- families
 
@@ -53,4 +57,5 @@ column_family section column ts =
 abbrev pub table_families : Option (List ℕ) → List TableMetrics → List ℕ
 table_families section ts =
     column_family section columns.Size ts ++ (column_family section columns.Used ts
-    ++ (column_family section columns.Events ts ++ column_family section columns.NextNumber ts))
+    ++ (column_family section columns.Events ts ++ (column_family section columns.NextNumber ts
+    ++ column_family section columns.Displaced ts)))

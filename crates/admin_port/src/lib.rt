@@ -3,14 +3,20 @@
 #![tactic(auto)]
 
 mod answers;
+mod definition_words;
 mod http_requests;
 mod idle;
+mod lag_metrics;
 mod laws;
 mod lines;
 mod metric_families;
 mod metrics_pages;
 mod pages;
 mod peer_metrics;
+#[cfg(test)]
+mod process_files;
+mod process_metrics;
+mod process_texts;
 mod reports;
 mod request_keys;
 mod request_words;
@@ -25,18 +31,22 @@ mod table_names;
 pub use answers::{
     Answer, push_answer, push_found, push_refused, push_rows, push_too_many, push_tracked,
 };
+pub use definition_words::push_side;
 pub use http_requests::{HttpRequest, Page, read_http_request};
-pub use idle::{is_idle_too_long, longest_idle};
+pub use idle::{is_idle_too_long, longest_idle, makes_room};
+pub use lag_metrics::TableLag;
 pub use laws::{lone_event, one_request, rates_at_borders};
-pub use metrics_pages::{FaultCount, Metrics, NodeMetrics, PassedOver, metrics_page};
+pub use metrics_pages::{
+    FaultCount, Metrics, NodeMetrics, PassedOver, RefusedHellos, metrics_page,
+};
 pub use pages::{
     Extent, Health, push_health, push_method_not_allowed, push_metrics, push_missing_page,
-    push_overview, push_ready, push_version_not_supported,
+    push_overview, push_ready, push_too_many_clients, push_version_not_supported,
 };
 pub use peer_metrics::{PeerMetrics, ResyncsEnded, SessionsEnded};
-pub use reports::{
-    PeerReport, PeerRole, PeerState, PeerTableReport, SessionEnd, push_node, push_peers,
-};
+pub use process_metrics::{BuildInfo, ProcessMetrics};
+pub use process_texts::{ProcessStat, open_descriptors, read_process_stat};
+pub use reports::{PeerReport, PeerRole, PeerState, PeerTableReport, push_node, push_peers};
 pub use requests::{MOST_REQUEST, Request, read_request};
 pub use shown_tables::{push_live_rows, push_table_header};
 pub use table_metrics::TableMetrics;

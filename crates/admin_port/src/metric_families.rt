@@ -1,14 +1,17 @@
 //! The families of metrics of a node as a whole.
 ghost use Rattle.std.specs.Prelude.{◌≡◌, ◌++◌, OnOk};
-ghost use Rattle.admin_port.specs.Metrics.{family_help, family_kind, family_name, family_value, fault_sample, faults_family, node_families, node_family, passed_family, passed_head, passed_sample, peer_counts, row_counts};
+ghost use Rattle.admin_port.specs.Metrics.{family_help, family_kind, family_name, family_value, fault_sample, faults_family, node_families, node_family, passed_family, passed_head, passed_sample, peer_counts, refused_hellos_family, refused_hellos_sample, row_counts};
 
-use crate::metrics_pages::{FaultCount, NodeMetrics, PassedOver};
+use crate::metrics_pages::{FaultCount, NodeMetrics, PassedOver, RefusedHellos};
 use crate::samples::{Label, push_head, push_sample};
-use std::alloc::AllocError;
+use node_text::push_number;
+use std::alloc::{AllocError, Global};
 
 /// A family of one sample.
 #[derive(Clone, Copy)]
 enum NodeFamily {
+    /// Whether the node is up to date.
+    UpToDate,
     /// The peers with a session whose hello is over.
     ActivePeers,
     /// The peers with a connection.
@@ -23,6 +26,8 @@ enum NodeFamily {
     BytesSent,
     /// The bytes received.
     BytesReceived,
+    /// The lines of the log that were dropped.
+    LogLinesDropped,
     /// The time since the node began.
     Uptime,
 }
@@ -33,6 +38,7 @@ impl NodeFamily {
         ensures { result.now ≡ family_name self }
     {
         match self {
+            NodeFamily::UpToDate => "digbaro_up_to_date",
             NodeFamily::ActivePeers => "haproxy_process_active_peers",
             NodeFamily::ConnectedPeers => "haproxy_process_connected_peers",
             NodeFamily::TablesLeft => "digbaro_tables_left",
@@ -40,6 +46,7 @@ impl NodeFamily {
             NodeFamily::RowsTaught => "digbaro_rows_taught_total",
             NodeFamily::BytesSent => "digbaro_bytes_sent_total",
             NodeFamily::BytesReceived => "digbaro_bytes_received_total",
+            NodeFamily::LogLinesDropped => "digbaro_log_lines_dropped_total",
             NodeFamily::Uptime => "digbaro_uptime_seconds",
         }
     }
@@ -49,6 +56,7 @@ impl NodeFamily {
         ensures { result.now ≡ family_kind self }
     {
         match self {
+            NodeFamily::UpToDate => "gauge",
             NodeFamily::ActivePeers => "gauge",
             NodeFamily::ConnectedPeers => "gauge",
             NodeFamily::TablesLeft => "gauge",
@@ -56,6 +64,7 @@ impl NodeFamily {
             NodeFamily::RowsTaught => "counter",
             NodeFamily::BytesSent => "counter",
             NodeFamily::BytesReceived => "counter",
+            NodeFamily::LogLinesDropped => "counter",
             NodeFamily::Uptime => "gauge",
         }
     }
@@ -65,6 +74,7 @@ impl NodeFamily {
         ensures { result.now ≡ family_help self }
     {
         match self {
+            NodeFamily::UpToDate => "Whether this node is up to date.",
             NodeFamily::ActivePeers => "Current number of verified active peers connections.",
             NodeFamily::ConnectedPeers =>
                 "Current number of peers having passed the connection step.",
@@ -73,6 +83,7 @@ impl NodeFamily {
             NodeFamily::RowsTaught => "Rows taught to peers.",
             NodeFamily::BytesSent => "Bytes sent to peers.",
             NodeFamily::BytesReceived => "Bytes received from peers.",
+            NodeFamily::LogLinesDropped => "Lines of the log that were dropped.",
             NodeFamily::Uptime => "Seconds since this node began.",
         }
     }
@@ -82,6 +93,7 @@ impl NodeFamily {
         ensures { result ≡ family_value self node.now }
     {
         match self {
+            NodeFamily::UpToDate => u64::from(node.up_to_date),
             NodeFamily::ActivePeers => node.active_peers,
             NodeFamily::ConnectedPeers => node.connected_peers,
             NodeFamily::TablesLeft => node.tables_left,
@@ -89,6 +101,7 @@ impl NodeFamily {
             NodeFamily::RowsTaught => node.rows_taught,
             NodeFamily::BytesSent => node.bytes_sent,
             NodeFamily::BytesReceived => node.bytes_received,
+            NodeFamily::LogLinesDropped => node.log_lines_dropped,
             NodeFamily::Uptime => node.uptime_seconds,
         }
     }
@@ -106,14 +119,16 @@ pub(crate) fn push_node_families(
     push_row_counts(text, node)?;
     push_passed_over(text, node.passed_over)?;
     push_faults(text, faults)?;
+    push_family(text, node, NodeFamily::LogLinesDropped)?;
     push_family(text, node, NodeFamily::Uptime)
 }
 
-/// Appends how many peers there are, and how many tables were left.
+/// Appends whether the node is up to date, how many peers there are, and how many tables were left.
 #[tactic(auto, unfolding(crate::specs::Metrics::peer_counts))]
 fn push_peer_counts(text: &mut Vec<u8>, node: &NodeMetrics) -> Result<(), AllocError>
     ensures { OnOk result (text.new.items ≡ text.old.items ++ peer_counts node.now) }
 {
+    push_family(text, node, NodeFamily::UpToDate)?;
     push_family(text, node, NodeFamily::ActivePeers)?;
     push_family(text, node, NodeFamily::ConnectedPeers)?;
     push_family(text, node, NodeFamily::TablesLeft)
@@ -203,4 +218,48 @@ fn push_fault(text: &mut Vec<u8>, fault: &FaultCount) -> Result<(), AllocError>
         value: fault.name.as_bytes(),
     }];
     push_sample(text, "digbaro_faults_total", labels.as_slice(), fault.count)
+}
+
+/// Appends how often hellos were refused with each status.
+#[tactic(auto, unfolding(crate::specs::Metrics::refused_hellos_family))]
+pub(crate) fn push_refused_hellos(
+    alloc: Global,
+    text: &mut Vec<u8>,
+    refused: &[RefusedHellos],
+) -> Result<(), AllocError>
+    ensures { OnOk result (text.new.items ≡ text.old.items ++ refused_hellos_family refused.now) }
+{
+    push_head(
+        text,
+        "digbaro_hellos_refused_total",
+        "counter",
+        "Hellos that this node refused with this status.",
+    )?;
+    for hellos in refused {
+        push_refused_status(alloc, text, *hellos)?;
+    }
+    Ok(())
+}
+
+/// Appends how often hellos were refused with a status.
+#[tactic(auto, unfolding(crate::specs::Metrics::refused_hellos_sample))]
+fn push_refused_status(
+    alloc: Global,
+    text: &mut Vec<u8>,
+    hellos: RefusedHellos,
+) -> Result<(), AllocError>
+    ensures { OnOk result (text.new.items ≡ text.old.items ++ refused_hellos_sample hellos) }
+{
+    let mut status = Vec::new(alloc);
+    push_number(&mut status, u64::from(hellos.status))?;
+    let labels = [Label {
+        name: "status",
+        value: status.as_slice(),
+    }];
+    push_sample(
+        text,
+        "digbaro_hellos_refused_total",
+        labels.as_slice(),
+        hellos.count,
+    )
 }

@@ -2,8 +2,10 @@
 ghost use Rattle.std.specs.Prelude.{◌≡◌, ◌++◌, IfOk, OnOk};
 ghost use Rattle.admin_port.specs.Metrics.{metrics_page};
 
-use crate::metric_families::push_node_families;
+use crate::lag_metrics::push_lag_families;
+use crate::metric_families::{push_node_families, push_refused_hellos};
 use crate::peer_metrics::{PeerMetrics, push_peer_families};
+use crate::process_metrics::{BuildInfo, ProcessMetrics, push_process_families};
 use crate::table_metrics::{TableMetrics, push_table_families};
 use std::alloc::{AllocError, Global};
 use table_types::Name;
@@ -21,11 +23,19 @@ pub struct Metrics<'a> {
     pub node: NodeMetrics,
     /// How often each fault came.
     pub faults: Vec<FaultCount>,
+    /// How often hellos were refused, by the status.
+    pub refused_hellos: Vec<RefusedHellos>,
+    /// What the program is built from.
+    pub build: BuildInfo,
+    /// What the system counts of the process.
+    pub process: ProcessMetrics,
 }
 
 /// What a node counts of all peers together.
 #[derive(Clone, Copy, Debug)]
 pub struct NodeMetrics {
+    /// Whether the node is up to date.
+    pub up_to_date: bool,
     /// The peers with a session whose hello is over.
     pub active_peers: u64,
     /// The peers with a connection.
@@ -42,6 +52,8 @@ pub struct NodeMetrics {
     pub tables_left: u64,
     /// What was passed over.
     pub passed_over: PassedOver,
+    /// The lines of the log that were dropped.
+    pub log_lines_dropped: u64,
     /// The whole seconds since the node began.
     pub uptime_seconds: u64,
 }
@@ -68,6 +80,15 @@ pub struct FaultCount {
     pub count: u64,
 }
 
+/// How often the node refused a hello with a status.
+#[derive(Clone, Copy, Debug)]
+pub struct RefusedHellos {
+    /// The status.
+    pub status: u16,
+    /// How often it was sent.
+    pub count: u64,
+}
+
 /// Returns the page of metrics.
 pub fn metrics_page(alloc: Global, metrics: &Metrics<'_>) -> Result<Vec<u8>, AllocError>
     ensures { IfOk result (λ page. page.items ≡ metrics_page metrics.now) }
@@ -75,6 +96,9 @@ pub fn metrics_page(alloc: Global, metrics: &Metrics<'_>) -> Result<Vec<u8>, All
     let mut page = Vec::new(alloc);
     push_table_families(alloc, &mut page, metrics.section, metrics.tables.as_slice())?;
     push_peer_families(&mut page, metrics.peers.as_slice())?;
+    push_lag_families(alloc, &mut page, metrics.section, metrics.peers.as_slice())?;
     push_node_families(&mut page, &metrics.node, metrics.faults.as_slice())?;
+    push_refused_hellos(alloc, &mut page, metrics.refused_hellos.as_slice())?;
+    push_process_families(&mut page, metrics.build, metrics.process)?;
     Ok(page)
 }

@@ -157,7 +157,7 @@ pub fn push_method_not_allowed(text: &mut Vec<u8>) -> Result<(), AllocError>
 
 /// Appends the answer that there are too many clients.
 #[tactic(auto, unfolding(crate::specs::Pages::too_many_clients))]
-pub(crate) fn push_too_many_clients(text: &mut Vec<u8>) -> Result<(), AllocError>
+pub fn push_too_many_clients(text: &mut Vec<u8>) -> Result<(), AllocError>
     ensures { OnOk result (text.new.items ≡ text.old.items ++ too_many_clients) }
 {
     push_words(

@@ -1,9 +1,11 @@
 //! The families of metrics that have samples for each peer.
 ghost use Rattle.std.specs.Prelude.{◌≡◌, ◌++◌, OnOk};
-ghost use Rattle.admin_port.specs.PeerMetrics.{as_number, end_sample, peer_families, peers_up, resync_sample, resyncs_family, resyncs_of, role_samples, sessions_family, sessions_of, up_sample};
+ghost use Rattle.admin_port.specs.PeerMetrics.{as_number, end_sample, last_error_sample, last_errors, mismatched_family, mismatched_sample, peer_families, peers_up, resync_sample, resyncs_family, resyncs_of, role_samples, sessions_family, sessions_of, up_sample};
 
-use crate::reports::SessionEnd;
+use crate::lag_metrics::TableLag;
+use crate::reports::push_last_error;
 use crate::samples::{Label, push_head, push_sample};
+use node_core::{LastError, SessionEnd};
 use std::alloc::AllocError;
 use table_types::Name;
 
@@ -14,12 +16,18 @@ pub struct PeerMetrics<'a> {
     pub name: &'a Name,
     /// Whether there is a session whose hello is over.
     pub up: bool,
+    /// Why there is no session, as the last attempt showed.
+    pub last_error: Option<LastError>,
     /// The sessions that ended.
     pub sessions: SessionsEnded,
     /// The resyncs in which the node was the teacher.
     pub taught: ResyncsEnded,
     /// The resyncs in which the node was the learner.
     pub learned: ResyncsEnded,
+    /// The number of tables that the peer defines otherwise.
+    pub mismatched: u64,
+    /// What the peer lacks of each table.
+    pub lags: Vec<TableLag<'a>>,
 }
 
 /// How many sessions ended, by the way of their end.
@@ -58,8 +66,10 @@ pub(crate) fn push_peer_families(
     ensures { OnOk result (text.new.items ≡ text.old.items ++ peer_families peers.now) }
 {
     push_up(text, peers)?;
+    push_last_errors(text, peers)?;
     push_sessions(text, peers)?;
-    push_resyncs(text, peers)
+    push_resyncs(text, peers)?;
+    push_mismatched(text, peers)
 }
 
 /// Appends whether each peer is up.
@@ -204,4 +214,78 @@ fn push_resync(
         },
     ];
     push_sample(text, "digbaro_resyncs_total", labels.as_slice(), count)
+}
+
+/// Appends why there is no session with each peer without one.
+#[tactic(auto, unfolding(crate::specs::PeerMetrics::last_errors))]
+fn push_last_errors(text: &mut Vec<u8>, peers: &[PeerMetrics<'_>]) -> Result<(), AllocError>
+    ensures { OnOk result (text.new.items ≡ text.old.items ++ last_errors peers.now) }
+{
+    push_head(
+        text,
+        "digbaro_peer_last_error",
+        "gauge",
+        "Why there is no session with this peer.",
+    )?;
+    for peer in peers {
+        push_peer_last_error(text, peer)?;
+    }
+    Ok(())
+}
+
+/// Appends why there is no session with a peer, if that is known.
+#[tactic(auto, unfolding(crate::specs::PeerMetrics::last_error_sample))]
+fn push_peer_last_error(text: &mut Vec<u8>, peer: &PeerMetrics<'_>) -> Result<(), AllocError>
+    ensures { OnOk result (text.new.items ≡ text.old.items ++ last_error_sample peer.now) }
+{
+    let Some(last_error) = peer.last_error else {
+        return Ok(());
+    };
+    let mut error = Vec::new(*text.allocator());
+    push_last_error(&mut error, Some(last_error))?;
+    let labels = [
+        Label {
+            name: "peer",
+            value: peer.name.as_slice(),
+        },
+        Label {
+            name: "error",
+            value: error.as_slice(),
+        },
+    ];
+    push_sample(text, "digbaro_peer_last_error", labels.as_slice(), 1)
+}
+
+/// Appends how many tables each peer defines otherwise.
+#[tactic(auto, unfolding(crate::specs::PeerMetrics::mismatched_family))]
+fn push_mismatched(text: &mut Vec<u8>, peers: &[PeerMetrics<'_>]) -> Result<(), AllocError>
+    ensures { OnOk result (text.new.items ≡ text.old.items ++ mismatched_family peers.now) }
+{
+    push_head(
+        text,
+        "digbaro_tables_mismatched",
+        "gauge",
+        "Tables that this peer defines otherwise than this node.",
+    )?;
+    for peer in peers {
+        push_peer_mismatched(text, peer)?;
+    }
+    Ok(())
+}
+
+/// Appends how many tables a peer defines otherwise.
+#[tactic(auto, unfolding(crate::specs::PeerMetrics::mismatched_sample))]
+fn push_peer_mismatched(text: &mut Vec<u8>, peer: &PeerMetrics<'_>) -> Result<(), AllocError>
+    ensures { OnOk result (text.new.items ≡ text.old.items ++ mismatched_sample peer.now) }
+{
+    let labels = [Label {
+        name: "peer",
+        value: peer.name.as_slice(),
+    }];
+    push_sample(
+        text,
+        "digbaro_tables_mismatched",
+        labels.as_slice(),
+        peer.mismatched,
+    )
 }

@@ -1,10 +1,11 @@
 //! What a node reports of itself and its peers.
 ghost use Rattle.std.specs.Prelude.{◌≡◌, ◌++◌, OnOk, flat_map};
 ghost use Rattle.node_text.specs.Numbers.{number_or_dash};
-ghost use Rattle.admin_port.specs.Reports.{counts_text, end_and_version_text, end_name, end_text, node_line, numbers_text, peer_line, peer_lines, role_text, state_name, table_line, version_text, yes_or_no};
+ghost use Rattle.admin_port.specs.Reports.{counts_text, difference_name, difference_text, end_and_version_text, end_text, last_error_text, left_and_mismatch_text, node_line, numbers_text, peer_line, peer_lines, present_text, role_text, state_name, table_line, troubles_text, version_text, yes_or_no};
 
 use crate::lines::{push_field, push_line_end, push_words};
 use crate::table_names::push_table_name;
+use node_core::{Difference, LastError, SessionEnd};
 use node_text::{push_number, push_word_and_number};
 use std::alloc::AllocError;
 use table_types::{Moment, Name, TableDef, Version};
@@ -31,23 +32,6 @@ pub enum PeerRole {
     Accept,
 }
 
-/// Why a session ended.
-#[derive(Clone, Copy, Debug, PartialEq, Eq)]
-pub enum SessionEnd {
-    /// The peer's bytes ended.
-    End,
-    /// No byte of the peer came for too long.
-    Silent,
-    /// The peer's messages had a fault.
-    Fault,
-    /// Another connection of the peer took its place.
-    Replaced,
-    /// A read or a write failed.
-    Device,
-    /// The peer sent an error or refused the node, or the node couldn't go on.
-    Error,
-}
-
 /// What a node reports of a peer.
 #[derive(Debug, Drop)]
 pub struct PeerReport<'a> {
@@ -71,6 +55,12 @@ pub struct PeerReport<'a> {
     pub last_end: Option<SessionEnd>,
     /// The version that the session speaks, if there is one.
     pub version: Option<Version>,
+    /// Why there is no session, if the last attempt showed it.
+    pub last_error: Option<LastError>,
+    /// The number of rows that are still to be pushed or acknowledged in the session that stands.
+    pub lag: u64,
+    /// The number of tables that the peer defines otherwise.
+    pub mismatched: u64,
     /// What the session reports of each table, if there is a session.
     pub tables: Vec<PeerTableReport<'a>>,
 }
@@ -88,6 +78,8 @@ pub struct PeerTableReport<'a> {
     pub received: Option<u32>,
     /// Whether the table was left.
     pub left: bool,
+    /// What differs first between the node's definition and the peer's, if something does.
+    pub mismatch: Option<Difference>,
 }
 
 /// Appends the line of the node itself.
@@ -146,7 +138,7 @@ fn push_peer(text: &mut Vec<u8>, peer: &PeerReport<'_>) -> Result<(), AllocError
     push_field(text, " state=", state_name(peer.state).as_bytes())?;
     push_field(text, " role=", role_text(peer.role).as_bytes())?;
     push_counts(text, peer)?;
-    push_end_and_version(text, peer)?;
+    push_present(text, peer)?;
     push_line_end(text)
 }
 
@@ -162,6 +154,15 @@ fn push_counts(text: &mut Vec<u8>, peer: &PeerReport<'_>) -> Result<(), AllocErr
     push_word_and_number(text, " faults=", peer.faults)
 }
 
+/// Appends what stands behind a peer's numbers.
+#[tactic(auto, unfolding(crate::specs::Reports::present_text))]
+fn push_present(text: &mut Vec<u8>, peer: &PeerReport<'_>) -> Result<(), AllocError>
+    ensures { OnOk result (text.new.items ≡ text.old.items ++ present_text peer.now) }
+{
+    push_end_and_version(text, peer)?;
+    push_troubles(text, peer)
+}
+
 /// Appends why the last session with a peer ended, and the version that the present one speaks.
 #[tactic(auto, unfolding(crate::specs::Reports::end_and_version_text))]
 fn push_end_and_version(text: &mut Vec<u8>, peer: &PeerReport<'_>) -> Result<(), AllocError>
@@ -169,6 +170,36 @@ fn push_end_and_version(text: &mut Vec<u8>, peer: &PeerReport<'_>) -> Result<(),
 {
     push_field(text, " last_end=", end_text(peer.last_end).as_bytes())?;
     push_field(text, " version=", version_text(peer.version).as_bytes())
+}
+
+/// Appends why there is no session with a peer, and what it lacks or defines otherwise.
+#[tactic(auto, unfolding(crate::specs::Reports::troubles_text))]
+fn push_troubles(text: &mut Vec<u8>, peer: &PeerReport<'_>) -> Result<(), AllocError>
+    ensures { OnOk result (text.new.items ≡ text.old.items ++ troubles_text peer.now) }
+{
+    push_words(text, " last_error=")?;
+    push_last_error(text, peer.last_error)?;
+    push_word_and_number(text, " lag=", peer.lag)?;
+    push_word_and_number(text, " mismatched=", peer.mismatched)
+}
+
+/// Appends the word for why there is no session, or `-` if no attempt showed it.
+pub(crate) fn push_last_error(
+    text: &mut Vec<u8>,
+    error: Option<LastError>,
+) -> Result<(), AllocError>
+    ensures { OnOk result (text.new.items ≡ text.old.items ++ last_error_text error) }
+{
+    match error {
+        Some(LastError::Unreachable) => push_words(text, "unreachable"),
+        Some(LastError::Refused(status)) => {
+            push_word_and_number(text, "refused-", u64::from(status))
+        }
+        Some(LastError::HelloRefused(status)) => {
+            push_word_and_number(text, "hello-refused-", u64::from(status))
+        }
+        None => push_words(text, "-"),
+    }
 }
 
 /// Appends the line of a table in the session with the peer `peer`.
@@ -185,7 +216,7 @@ fn push_table(
     push_words(text, " ")?;
     push_table_name(text, section, report.table.name())?;
     push_numbers(text, report)?;
-    push_field(text, " left=", yes_or_no(report.left).as_bytes())?;
+    push_left_and_mismatch(text, report)?;
     push_line_end(text)
 }
 
@@ -199,6 +230,22 @@ fn push_numbers(text: &mut Vec<u8>, report: &PeerTableReport<'_>) -> Result<(), 
     push_words(text, " received=")?;
     push_optional_number(text, report.received)?;
     Ok(())
+}
+
+/// Appends whether a table was left, and what of it the peer defines otherwise.
+#[tactic(auto, unfolding(crate::specs::Reports::left_and_mismatch_text))]
+fn push_left_and_mismatch(
+    text: &mut Vec<u8>,
+    report: &PeerTableReport<'_>,
+) -> Result<(), AllocError>
+    ensures { OnOk result (text.new.items ≡ text.old.items ++ left_and_mismatch_text report.now) }
+{
+    push_field(text, " left=", yes_or_no(report.left).as_bytes())?;
+    push_field(
+        text,
+        " mismatch=",
+        difference_text(report.mismatch).as_bytes(),
+    )
 }
 
 /// Appends a number, or `-` for none.
@@ -241,22 +288,6 @@ fn role_text(role: Option<PeerRole>) -> &'static str
     }
 }
 
-impl SessionEnd {
-    /// Returns the word for the end of a session.
-    pub fn name(self) -> &'static str
-        ensures { result.now ≡ end_name self }
-    {
-        match self {
-            SessionEnd::End => "end",
-            SessionEnd::Silent => "silent",
-            SessionEnd::Fault => "fault",
-            SessionEnd::Replaced => "replaced",
-            SessionEnd::Device => "device",
-            SessionEnd::Error => "error",
-        }
-    }
-}
-
 /// Returns the word for why the last session ended, or `-` if none did.
 fn end_text(end: Option<SessionEnd>) -> &'static str
     ensures { result.now ≡ end_text end }
@@ -274,6 +305,28 @@ fn version_text(version: Option<Version>) -> &'static str
     match version {
         Some(Version::V20) => "2.0",
         Some(Version::V21) => "2.1",
+        None => "-",
+    }
+}
+
+/// Returns the word for what differs.
+fn difference_name(difference: Difference) -> &'static str
+    ensures { result.now ≡ difference_name difference }
+{
+    match difference {
+        Difference::Kind => "kind",
+        Difference::Length => "length",
+        Difference::Types => "types",
+        Difference::Period => "period",
+    }
+}
+
+/// Returns the word for what differs, or `-` if nothing does.
+fn difference_text(difference: Option<Difference>) -> &'static str
+    ensures { result.now ≡ difference_text difference }
+{
+    match difference {
+        Some(difference) => difference_name(difference),
         None => "-",
     }
 }

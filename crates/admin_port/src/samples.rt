@@ -1,9 +1,9 @@
 //! Samples of metrics, in the text form of Prometheus.
 ghost use Rattle.std.specs.Prelude.{◌≡◌, ◌++◌, OnOk, flat_map};
-ghost use Rattle.admin_port.specs.Samples.{family_head, label_byte, label_text, labels_text, more_labels, pair_of, pairs_of, sample_line};
+ghost use Rattle.admin_port.specs.Samples.{digit, family_head, in_seconds, label_byte, label_text, labels_text, more_labels, pair_of, pairs_of, sample_line, seconds_line};
 
 use crate::lines::{push_field, push_line_end, push_words};
-use node_text::push_word_and_number;
+use node_text::{push_number, push_word_and_number};
 use std::alloc::AllocError;
 
 /// A label of a sample.
@@ -47,6 +47,46 @@ pub(crate) fn push_sample(
     push_word_and_number(text, " ", value)?;
     text.push(b'\n')?;
     Ok(())
+}
+
+/// Appends the line of a sample whose value is a time.
+#[tactic(auto, unfolding(crate::specs::Samples::seconds_line))]
+pub(crate) fn push_seconds(
+    text: &mut Vec<u8>,
+    name: &str,
+    labels: &[Label<'_>],
+    milliseconds: u64,
+) -> Result<(), AllocError>
+    ensures { OnOk result (text.new.items ≡ text.old.items ++ seconds_line name.now (pairs_of labels.now) milliseconds) }
+{
+    push_words(text, name)?;
+    push_labels(text, labels)?;
+    text.push(b' ')?;
+    push_in_seconds(text, milliseconds)?;
+    text.push(b'\n')?;
+    Ok(())
+}
+
+/// Appends a number of milliseconds in seconds.
+#[tactic(auto, unfolding(crate::specs::Samples::in_seconds))]
+fn push_in_seconds(text: &mut Vec<u8>, milliseconds: u64) -> Result<(), AllocError>
+    ensures { OnOk result (text.new.items ≡ text.old.items ++ in_seconds milliseconds) }
+{
+    push_number(text, milliseconds / 1_000)?;
+    let places = [
+        b'.',
+        digit(milliseconds / 100),
+        digit(milliseconds / 10),
+        digit(milliseconds),
+    ];
+    text.extend_from_slice(places.as_slice())
+}
+
+/// Returns the last digit of a number.
+fn digit(number: u64) -> u8
+    ensures { result ≡ digit number }
+{
+    b'0' + (number % 10) as u8
 }
 
 /// Appends labels in braces, or nothing if there are none.

@@ -21,6 +21,8 @@ pub struct TableMetrics<'a> {
     pub events: u64,
     /// The number that its next change takes.
     pub next_number: u64,
+    /// The number of rows that new ones displaced, since it was full.
+    pub displaced: u64,
 }
 
 /// What a family has of each table.
@@ -34,6 +36,8 @@ enum Column {
     Events,
     /// The next number.
     NextNumber,
+    /// The number of rows displaced.
+    Displaced,
 }
 
 impl Column {
@@ -46,6 +50,7 @@ impl Column {
             Column::Used => "haproxy_sticktable_used",
             Column::Events => "digbaro_table_events_total",
             Column::NextNumber => "digbaro_table_next_number",
+            Column::Displaced => "digbaro_rows_displaced_total",
         }
     }
 
@@ -55,7 +60,7 @@ impl Column {
     {
         match self {
             Column::Size | Column::Used | Column::NextNumber => "gauge",
-            Column::Events => "counter",
+            Column::Events | Column::Displaced => "counter",
         }
     }
 
@@ -68,6 +73,7 @@ impl Column {
             Column::Used => "Number of entries used in this stick table.",
             Column::Events => "Events of this table.",
             Column::NextNumber => "Number that the next change of this table takes.",
+            Column::Displaced => "Rows of this table that new ones displaced, since it was full.",
         }
     }
 }
@@ -84,7 +90,8 @@ pub(crate) fn push_table_families(
     push_column(alloc, text, section, tables, Column::Size)?;
     push_column(alloc, text, section, tables, Column::Used)?;
     push_column(alloc, text, section, tables, Column::Events)?;
-    push_column(alloc, text, section, tables, Column::NextNumber)
+    push_column(alloc, text, section, tables, Column::NextNumber)?;
+    push_column(alloc, text, section, tables, Column::Displaced)
 }
 
 /// Appends the family that has `column` of each table.
@@ -136,6 +143,7 @@ fn push_table(
             table.table,
             table.next_number,
         ),
+        Column::Displaced => push_named(alloc, text, name, section, table.table, table.displaced),
     }
 }
 

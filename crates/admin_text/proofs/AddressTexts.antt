@@ -1,9 +1,9 @@
 -- The text of an address: where its port begins, and which host it names.
-use Rattle.std.proofs.Common.{◌≡◌, ◌∙◌, ◌+◌, ◌-◌, ◌*◌, ◌^◌, ◌<◌, ◌≤◌, ◌++◌, ◌&&◌, Bool, true, false, ℕ, List, [], ◌∷◌, ap, arith, codes, get_or, refl, rules, subst, sym, true≢false}
+use Rattle.std.proofs.Common.{◌≡◌, ◌∙◌, ◌^◌, ◌<◌, ◌≤◌, ◌++◌, ◌&&◌, Bool, true, false, ℕ, List, [], ◌∷◌, ap, arith, codes, get_or, refl, rules, subst, sym, true≢false}
 use Rattle.std.specs.Prelude.{Contains, MatchOption, None, Option, Some, if◌then◌else◌}
 use Rattle.std.specs.Fmt.{decimal}
 use Rattle.std.specs.List.{list_all}
-use Rattle.std.specs.Net.Grammar.{IsDotted, IsIpv4Text, IsIpv6Text}
+use Rattle.std.specs.Net.Grammar.{IsIpv4Text, IsIpv6Text}
 use Rattle.std.specs.Net.Socket.{socket_ip, socket_port}
 use Rattle.std.specs.declared.net.ip_addr.IpAddr.{IpAddr}
 use Rattle.std.specs.declared.net.ip_addr.IpAddr.TheVariants as ips
@@ -16,7 +16,7 @@ use Rattle.std.proofs.lemmas.List.{append_assoc, append_cancel_right}
 use Rattle.std.proofs.lemmas.List.Elements.{All-contains, Contains-append_right}
 use Rattle.std.proofs.lemmas.List.Sums.{AllPass-from_list_all}
 use Rattle.std.proofs.lemmas.Str.Parse.{IsNumeralModel, numerals_by_fold}
-use Rattle.node_text.specs.Numbers.{digits_from, from_one, is_digit, is_without_needless_zero, number_of}
+use Rattle.node_text.specs.Numbers.{digits_from, from_one, is_digit, number_of}
 use Rattle.admin_text.specs.Addresses.{IsAddressText, IsHostText}
 
 -- ---- the last of a kind of byte
@@ -27,7 +27,7 @@ here b xs = (0, omega arith, refl)
 behind : (before after : List ℕ) (b : ℕ) → Contains (before ++ b ∷ after) b
 behind before after b = Contains-append_right before (b ∷ after) b (here b after)
 
-last_apart : (h p host port : List ℕ) (b : ℕ) → h ++ b ∷ p ≡ host ++ b ∷ port → (Contains p b → ⊥) → (Contains port b → ⊥)
+pub last_apart : (h p host port : List ℕ) (b : ℕ) → h ++ b ∷ p ≡ host ++ b ∷ port → (Contains p b → ⊥) → (Contains port b → ⊥)
     → (h ≡ host) × (p ≡ port)
 last_apart [] p [] port b same none other = (refl, cc)
 last_apart [] p (x ∷ host) port b same none other =
@@ -49,7 +49,7 @@ are_digits true true within n m is = refl
 are_digits true false within n m is = absurd (cc)
 are_digits false digits within n m is = absurd (cc)
 
-no_colon : (port : List ℕ) (n : ℕ) → number_of port 65535 ≡ Some n → Contains port 58 → ⊥
+pub no_colon : (port : List ℕ) (n : ℕ) → number_of port 65535 ≡ Some n → Contains port 58 → ⊥
 no_colon port n is has =
     let all = AllPass-from_list_all is_digit port (are_digits _ _ _ _ n is) in
     true≢false (sym (All-contains (λ byte. is_digit byte ≡ true) port 58 all has))
@@ -109,14 +109,18 @@ regrouped a p b q c r d =
     append_assoc (a ++ p ++ b ++ q ++ c) r d ∙ append_assoc (a ++ p ++ b ++ q) c (r ++ d) ∙ append_assoc (a ++ p ++ b) q (c ++ (r ++ d))
     ∙ append_assoc (a ++ p) b (q ++ (c ++ (r ++ d))) ∙ append_assoc a p (b ++ (q ++ (c ++ (r ++ d))))
 
-pub none_in_brackets : (text inner : List ℕ) → text ≡ 91 ∷ (inner ++ 93 ∷ []) → ((a : Ipv6Addr) → IsIpv6Text inner a → ⊥)
-    → (ip : IpAddr) → IsHostText text ip → ⊥
-none_in_brackets text inner is none (ips.V4 ip) dotted =
+-- an IPv4 address isn't in brackets
+pub dotted_alone : (text inner : List ℕ) (ip : Ipv4Addr) → text ≡ 91 ∷ (inner ++ 93 ∷ []) → IsIpv4Text text ip → ⊥
+dotted_alone text inner ip is dotted =
     let small : dotted.a < 2 ^ 64 = omega (arith, dotted.fit.0) in
     let point = codes "." in
     let rest = decimal dotted.b ++ (point ++ (decimal dotted.c ++ (point ++ decimal dotted.d))) in
     let parts = regrouped (decimal dotted.a) point (decimal dotted.b) point (decimal dotted.c) point (decimal dotted.d) in
     no_bracket (decimal dotted.a) rest (inner ++ 93 ∷ []) (digits_decimal own dotted.a small) (sym is ∙ dotted.spelled ∙ parts)
+
+pub none_in_brackets : (text inner : List ℕ) → text ≡ 91 ∷ (inner ++ 93 ∷ []) → ((a : Ipv6Addr) → IsIpv6Text inner a → ⊥)
+    → (ip : IpAddr) → IsHostText text ip → ⊥
+none_in_brackets text inner is none (ips.V4 ip) dotted = dotted_alone text inner ip is dotted
 none_in_brackets text inner is none (ips.V6 ip) (other, same, reads) =
     let tails : other ++ 93 ∷ [] ≡ inner ++ 93 ∷ [] = cc in
     none ip (subst (λ t. IsIpv6Text t ip) (append_cancel_right other inner (93 ∷ []) tails) reads)

@@ -1,6 +1,6 @@
 -- The names of a node and its peers stay distinct.
-use Rattle.std.proofs.Common.{◌≡◌, ◌≤◌, ◌∙◌, ◌++◌, Bool, true, false, ℕ, List, [], ◌∷◌, ap, arith, length, refl, subst, sym}
-use Rattle.std.specs.Prelude.{◌||◌, Err, IfSome, None, Ok, OnErr, OnOk, Option, Result, Some, map, option_to_list}
+use Rattle.std.proofs.Common.{◌≡◌, ◌≤◌, ◌∙◌, ◌++◌, Bool, true, false, inl, inr, ℕ, List, [], ◌∷◌, ap, length, refl, subst, sym}
+use Rattle.std.specs.Prelude.{◌||◌, ◌⊎◌, None, Option, Some, option_to_list}
 use Rattle.std.specs.List.{AllByRecursion}
 use Rattle.std.proofs.lemmas.Cmp.{nat_list_eq_equiv}
 use Rattle.std.proofs.lemmas.List.{append_assoc, map-append}
@@ -39,42 +39,87 @@ all_pushed (q ∷ peers) p (first, all) is = (first, all_pushed peers p all is)
 
 -- ---- the node's name
 
-node_set : (peers : List Peer) (name : List ℕ) → AreNamed None peers → IsLabel name → has_name name (names_of None peers) ≡ false
-    → AreNamed (Some name) peers
-node_set peers name named is new = record {
+apart_before : (name : List ℕ) (known : Option (List ℕ)) (peers : List Peer) → has_name name (names_of known peers) ≡ false
+    → has_name name (peer_names peers) ≡ false
+apart_before name None peers new = new
+apart_before name (Some other) peers new = (neither (is_same_name other name) (has_name name (peer_names peers)) new).1
+
+distinct_peers : (known : Option (List ℕ)) (peers : List Peer) → repeats_name (names_of known peers) ≡ false → repeats_name (peer_names peers) ≡ false
+distinct_peers None peers apart = apart
+distinct_peers (Some name) peers apart = (neither (has_name name (peer_names peers)) (repeats_name (peer_names peers)) apart).1
+
+pub node_set : (known : Option (List ℕ)) (peers : List Peer) (name : List ℕ) → AreNamed known peers → IsLabel name
+    → has_name name (names_of known peers) ≡ false → AreNamed (Some name) peers
+node_set known peers name named is new = record {
   own = is;
   most = named.most;
   each = named.each;
-  apart = both (has_name name (peer_names peers)) (repeats_name (peer_names peers)) new named.apart;
+  apart =
+      both (has_name name (peer_names peers)) (repeats_name (peer_names peers)) (apart_before name known peers new)
+      (distinct_peers known peers named.apart);
 }
 
-pub node_read : {E : Type 0} (s e : Option (List ℕ)) (peers : List Peer) (name : List ℕ) (r : Result (Unit {0}) E)
-    → OnOk r ((s ≡ None) × (e ≡ Some name)) → OnErr r (e ≡ s) → IsLabel name → has_name name (names_of s peers) ≡ false
-    → AreNamed s peers → AreNamed e peers
-node_read s e peers name (Ok done) (none, set) stays is new named =
-    subst (λ n. AreNamed n peers) (sym set)
-    (node_set peers name (subst (λ n. AreNamed n peers) none named) is (subst (λ n. has_name name (names_of n peers) ≡ false) none new))
-node_read s e peers name (Err error) set stays is new named = subst (λ n. AreNamed n peers) (sym stays) named
+either : (a b : Bool) → (a || b) ≡ true → (a ≡ true) ⊎ (b ≡ true)
+either true b is = inl refl
+either false b is = inr is
+
+right : (a b : Bool) → b ≡ true → (a || b) ≡ true
+right true b is = refl
+right false b is = is
+
+among_peers : (name : List ℕ) (known : Option (List ℕ)) (peers : List Peer) → has_name name (peer_names peers) ≡ true
+    → has_name name (names_of known peers) ≡ true
+among_peers name None peers has = has
+among_peers name (Some other) peers has = right (is_same_name other name) _ has
+
+named_or : (name own : List ℕ) (known : Option (List ℕ)) (peers : List Peer)
+    → ((is_same_name own name ≡ true) ⊎ (has_name name (peer_names peers) ≡ true))
+    → (is_same_name own name ≡ true) ⊎ (has_name name (names_of known peers) ≡ true)
+named_or name own known peers (inl is) = inl is
+named_or name own known peers (inr has) = inr (among_peers name known peers has)
+
+-- who has a name, once the node has one
+pub named_node : (name own : List ℕ) (known : Option (List ℕ)) (peers : List Peer) → has_name name (names_of (Some own) peers) ≡ true
+    → (is_same_name own name ≡ true) ⊎ (has_name name (names_of known peers) ≡ true)
+named_node name own known peers has = named_or name own known peers (either (is_same_name own name) (has_name name (peer_names peers)) has)
 
 -- ---- one more peer
 
-peer_pushed : (node : Option (List ℕ)) (peers : List Peer) (p : Peer) → AreNamed node peers → IsPeer p
-    → has_name p.name (names_of node peers) ≡ false → length (peers ++ p ∷ []) ≤ 15 → AreNamed node (peers ++ p ∷ [])
-peer_pushed node peers p named is new most =
-    let all : names_of node (peers ++ p ∷ []) ≡ names_of node peers ++ p.name ∷ []
-    = ap (λ names. option_to_list node ++ names) (map-append (λ (q : Peer). q.name) peers (p ∷ []))
-    ∙ sym (append_assoc (option_to_list node) (peer_names peers) (p.name ∷ [])) in
-    record {
-      own = named.own;
-      most = most;
-      each = all_pushed peers p named.each is;
-      apart = subst (λ names. repeats_name names ≡ false) (sym all) (names_pushed (names_of node peers) p.name new named.apart);
-    }
+pub all_names : (known : Option (List ℕ)) (peers : List Peer) (p : Peer) → names_of known (peers ++ p ∷ []) ≡ names_of known peers ++ p.name ∷ []
+all_names known peers p =
+    ap (λ names. option_to_list known ++ names) (map-append (λ (q : Peer). q.name) peers (p ∷ []))
+    ∙ sym (append_assoc (option_to_list known) (peer_names peers) (p.name ∷ []))
 
-pub peer_read : {E : Type 0} (node : Option (List ℕ)) (s e : List Peer) (p : Peer) (count : ℕ) (r : Result (Unit {0}) E)
-    → OnOk r ((e ≡ s ++ p ∷ []) × (count ≤ 15)) → OnErr r (e ≡ s) → count ≡ length e → IsPeer p
-    → has_name p.name (names_of node s) ≡ false → AreNamed node s → AreNamed node e
-peer_read node s e p count (Ok done) (pushed, most) stays counted is new named =
-    let within : length (s ++ p ∷ []) ≤ 15 = subst (λ ps. length ps ≤ 15) pushed (subst (λ n. n ≤ 15) counted most) in
-    subst (AreNamed node) (sym pushed) (peer_pushed node s p named is new within)
-peer_read node s e p count (Err error) pushed stays counted is new named = subst (AreNamed node) (sym stays) named
+last_only : (a : Bool) → (a || false) ≡ true → (a ≡ true) ⊎ (false ≡ true)
+last_only true is = inl refl
+last_only false is = absurd (cc)
+
+either_named : (name last : List ℕ) (b c : Bool) → (c ≡ true → (is_same_name last name ≡ true) ⊎ (b ≡ true)) → (a : Bool)
+    → ((a ≡ true) ⊎ (c ≡ true)) → (is_same_name last name ≡ true) ⊎ ((a || b) ≡ true)
+either_named name last b c more true found = inr refl
+either_named name last b c more false (inl is) = absurd (cc)
+either_named name last b c more false (inr is) = more is
+
+last_named : (name last : List ℕ) (names : List (List ℕ)) → has_name name (names ++ last ∷ []) ≡ true
+    → (is_same_name last name ≡ true) ⊎ (has_name name names ≡ true)
+last_named name last [] has = last_only (is_same_name last name) has
+last_named name last (other ∷ names) has =
+    either_named name last (has_name name names) (has_name name (names ++ last ∷ [])) (last_named name last names) (is_same_name other name)
+    (either (is_same_name other name) _ has)
+
+-- who has a name, with one more peer
+pub named_peer : (name : List ℕ) (known : Option (List ℕ)) (peers : List Peer) (p : Peer) → has_name name (names_of known (peers ++ p ∷ [])) ≡ true
+    → (is_same_name p.name name ≡ true) ⊎ (has_name name (names_of known peers) ≡ true)
+named_peer name known peers p has =
+    last_named name p.name (names_of known peers) (subst (λ names. has_name name names ≡ true) (all_names known peers p) has)
+
+pub peer_pushed : (known : Option (List ℕ)) (peers : List Peer) (p : Peer) → AreNamed known peers → IsPeer p
+    → has_name p.name (names_of known peers) ≡ false → length (peers ++ p ∷ []) ≤ 15 → AreNamed known (peers ++ p ∷ [])
+peer_pushed known peers p named is new most = record {
+  own = named.own;
+  most = most;
+  each = all_pushed peers p named.each is;
+  apart =
+      subst (λ names. repeats_name names ≡ false) (sym (all_names known peers p))
+      (names_pushed (names_of known peers) p.name new named.apart);
+}

@@ -1,44 +1,38 @@
 -- The faults of more and more lines, and the lines that say them.
-use Rattle.std.proofs.Common.{◌≡◌, ◌∙◌, ◌+◌, ◌<◌, ◌++◌, ◌&&◌, Bor, true, ℕ, List, [], ◌∷◌, add-one, ap, append_assoc, codes, drop, get_or, length, map, refl, subst, sym, take}
-use Rattle.std.specs.Prelude.{None, Option, Some}
-use Rattle.std.specs.Fmt.{decimal}
+use Rattle.std.proofs.Common.{◌≡◌, ◌∙◌, ◌+◌, ◌<◌, ◌++◌, ◌&&◌, true, ℕ, List, [], ◌∷◌, add-one, ap, append_assoc, codes, get_or, length, map, refl, subst, sym, take}
+use Rattle.std.specs.Prelude.{Result}
 use Rattle.std.proofs.Math.Seq.{take-suc}
 use Rattle.std.specs.List.{list_all}
-use Rattle.std.proofs.lemmas.List.{append-nil, map-append, take-append-drop}
+use Rattle.std.proofs.lemmas.List.{append-nil, map-append}
 use Rattle.std.proofs.lemmas.List.Folds.{list_all-append}
-use Rattle.admin_text.specs.LineFaults.{IsJudged}
-use Rattle.admin_text.specs.Refusals.{Adds, AddsPrintable, AreFaultsOf, AreLines, head_of, is_printable, lacking_head, listed}
-use Rattle.admin_text.specs.Statements.{Said, said_by}
+use Rattle.admin_text.specs.Lines.{IsRead}
+use Rattle.admin_text.specs.Outcomes.{fault_in}
+use Rattle.admin_text.specs.Refusals.{Adds, AddsPrintable, AreFaultsOf, AreLines, is_printable, lacking_head, listed}
+use Rattle.admin_text.specs.Statements.{Said}
 use Rattle.admin_text.specs.declared.line_kinds.LineKind.{LineKind}
-use Rattle.admin_text.specs.declared.statements.Statement.{Statement}
 use Rattle.admin_text.specs.declared.faults.Fault.{Fault}
 use Rattle.admin_text.specs.declared.faults.FaultyLine.{FaultyLine}
+use Rattle.admin_text.specs.declared.settings.Setting.{Setting}
 
 -- ---- one more line
 
-faults_more : (before lines : List Said) (line : Said) (fault : Option Fault) (found : List FaultyLine) → AreFaultsOf before lines found
-    → IsJudged (before ++ lines) line.1 fault → AreFaultsOf before (lines ++ line ∷ []) (found ++ listed line.0 fault)
-faults_more before [] line fault found none judged = (
-  fault,
+pub faults_more : (before lines : List Said) (line : Said) (outcome : Result Setting Fault) (found : List FaultyLine) → AreFaultsOf before lines found
+    → IsRead (before ++ lines) line.1 outcome → AreFaultsOf before (lines ++ line ∷ []) (found ++ listed line.0 (fault_in outcome))
+faults_more before [] line outcome found none read = (
+  outcome,
   [],
-  subst (λ said. IsJudged said line.1 fault) (append-nil before) judged,
-  ap (λ first. first ++ listed line.0 fault) none ∙ sym (append-nil (listed line.0 fault)),
+  subst (λ said. IsRead said line.1 outcome) (append-nil before) read,
+  ap (λ first. first ++ listed line.0 (fault_in outcome)) none ∙ sym (append-nil (listed line.0 (fault_in outcome))),
   refl,
 )
-faults_more before (first ∷ lines) line fault found (one, more, is, split, rest) judged = (
+faults_more before (first ∷ lines) line outcome found (one, more, is, split, rest) read = (
   one,
-  more ++ listed line.0 fault,
+  more ++ listed line.0 (fault_in outcome),
   is,
-  ap (λ all. all ++ listed line.0 fault) split ∙ append_assoc (listed first.0 one) more (listed line.0 fault),
-  faults_more (before ++ first ∷ []) lines line fault more rest
-      (subst (λ said. IsJudged said line.1 fault) (sym (append_assoc before (first ∷ []) lines)) judged),
+  ap (λ all. all ++ listed line.0 (fault_in outcome)) split ∙ append_assoc (listed first.0 (fault_in one)) more (listed line.0 (fault_in outcome)),
+  faults_more (before ++ first ∷ []) lines line outcome more rest
+      (subst (λ said. IsRead said line.1 outcome) (sym (append_assoc before (first ∷ []) lines)) read),
 )
-
-pub next_faults : (read lines : List Said) (line : Said) (fault : Option Fault) (found all : List FaultyLine) → AreFaultsOf [] lines found
-    → IsJudged lines line.1 fault → read ≡ lines ++ line ∷ [] → all ≡ found ++ listed line.0 fault → AreFaultsOf [] read all
-next_faults read lines line fault found all so_far judged same pushed =
-    subst (λ some. AreFaultsOf [] read some) (sym pushed)
-    (subst (λ some. AreFaultsOf [] some (found ++ listed line.0 fault)) (sym same) (faults_more [] lines line fault found so_far judged))
 
 -- ---- one more line of text
 
@@ -81,59 +75,7 @@ line_added before headed said after head begun (sentence, same, all) ended = (
   all,
 )
 
-pub head_added : (before begun after first second head : List ℕ) → begun ≡ before ++ first → head ≡ first ++ second → Adds second begun after
-    → Adds head before after
-head_added before begun after first second head pushed same (sentence, text, all) = (
-  sentence,
-  text ∙ ap (λ t. t ++ (second ++ (sentence ++ 10 ∷ []))) pushed ∙ append_assoc before first (second ++ (sentence ++ 10 ∷ []))
-      ∙ ap (λ t. before ++ t) (sym (append_assoc first second (sentence ++ 10 ∷ []))) ∙ ap (λ t. before ++ (t ++ (sentence ++ 10 ∷ []))) (sym same),
-  all,
-)
-
--- ---- as the code has the lines
-
-taken_more : (lines : List Statement) (i : ℕ) (s : Statement) → i < length lines → s ≡ get_or lines i s
-    → map said_by (take (i + 1) lines) ≡ map said_by (take i lines) ++ said_by s ∷ []
-taken_more lines i s less is =
-    ap (λ n. map said_by (take n lines)) (add-one i) ∙ ap (map said_by) (take-suc lines i s less) ∙ map-append said_by (take i lines) (get_or lines i s ∷ [])
-    ∙ ap (λ last. map said_by (take i lines) ++ said_by last ∷ []) (sym is)
-
-pub line_judged : (lines : List Statement) (i : ℕ) (s : Statement) (words : List (Bor (List ℕ))) (fault : Option Fault) (found all : List FaultyLine)
-    → i < length lines → s ≡ get_or lines i s → words ≡ s.words.items
-    → IsJudged (map said_by (take i lines)) (map (λ word. word.now) words) fault
-    → AreFaultsOf [] (map said_by (take i lines)) found → all ≡ found ++ listed s.number fault
-    → AreFaultsOf [] (map said_by (take (i + 1) lines)) all
-line_judged lines i s words fault found all less is same judged so_far pushed =
-    next_faults (map said_by (take (i + 1) lines)) (map said_by (take i lines)) (said_by s) fault found all so_far
-    (subst (λ ws. IsJudged (map said_by (take i lines)) (map (λ word. word.now) ws) fault) same judged) (taken_more lines i s less is) pushed
-
-pub line_faulty : (lines : List Statement) (i : ℕ) (s : Statement) (words : List (Bor (List ℕ))) (r : Option Fault) (fault : Fault)
-    (found all : List FaultyLine) → i < length lines → s ≡ get_or lines i s → words ≡ s.words.items
-    → IsJudged (map said_by (take i lines)) (map (λ word. word.now) words) r → r ≡ Some fault
-    → AreFaultsOf [] (map said_by (take i lines)) found → all ≡ found ++ record { number = s.number; fault = fault } ∷ []
-    → AreFaultsOf [] (map said_by (take (i + 1) lines)) all
-line_faulty lines i s words r fault found all less is same judged some so_far pushed =
-    line_judged lines i s words (Some fault) found all less is same
-    (subst (IsJudged (map said_by (take i lines)) (map (λ word. word.now) words)) some judged) so_far pushed
-
-pub line_passed : (lines : List Statement) (i : ℕ) (s : Statement) (words : List (Bor (List ℕ))) (r : Option Fault) (found : List FaultyLine)
-    → i < length lines → s ≡ get_or lines i s → words ≡ s.words.items
-    → IsJudged (map said_by (take i lines)) (map (λ word. word.now) words) r → r ≡ None
-    → AreFaultsOf [] (map said_by (take i lines)) found → AreFaultsOf [] (map said_by (take (i + 1) lines)) found
-line_passed lines i s words r found less is same judged none so_far =
-    line_judged lines i s words None found found less is same
-    (subst (IsJudged (map said_by (take i lines)) (map (λ word. word.now) words)) none judged) so_far (sym (append-nil found))
-
-pub lines_split : (lines : List Statement) (n : ℕ) → map said_by lines ≡ map said_by (take n lines) ++ map said_by (drop n lines)
-lines_split lines n = ap (map said_by) (sym (take-append-drop n lines)) ∙ map-append said_by (take n lines) (drop n lines)
-
-pub fault_said : (found all : List FaultyLine) (number : ℕ) (fault : Fault) (before after : List ℕ)
-    → all ≡ found ++ record { number = number; fault = fault } ∷ [] → Adds (codes "line " ++ (decimal number ++ codes ": ")) before after
-    → AreLines (map head_of found) before → AreLines (map head_of all) after
-fault_said found all number fault before after pushed adds so_far =
-    let line : FaultyLine = record { number = number; fault = fault } in
-    subst (λ heads. AreLines heads after) (sym (ap (map head_of) pushed ∙ map-append head_of found (line ∷ [])))
-    (next_lines (map head_of found) (head_of line) before after adds so_far)
+-- ---- lines that lack
 
 pub lacking_said : (kinds : List LineKind) (i : ℕ) (k : LineKind) (heads : List (List ℕ)) (before after : List ℕ) → i < length kinds
     → Adds (codes "configuration: ") before after → AreLines (heads ++ map lacking_head (take i kinds)) before

@@ -3,7 +3,7 @@ use Rattle.std.proofs.Common.{◌≡◌, ◌∙◌, ◌++◌, ℕ, List, [], ◌
 use Rattle.std.specs.Prelude.{Contains, None, Some}
 use Rattle.std.proofs.lemmas.Bool.{ne_eqb}
 use Rattle.std.proofs.lemmas.List.Elements.{Contains-append_right}
-use Rattle.admin_text.specs.TableFaults.{name_part, period_part}
+use Rattle.admin_text.specs.TableLines.{name_part, period_part}
 
 other_byte : (b byte : ℕ) (bytes : List ℕ) → (Contains (b ∷ bytes) byte → ⊥) → b ≡ byte → ⊥
 other_byte b byte bytes none same = none (0, omega arith, same)

@@ -6,7 +6,7 @@ use Rattle.std.specs.Net.Socket.{socket_flowinfo, socket_ip, socket_port, socket
 use Rattle.std.specs.declared.net.ip_addr.IpAddr.{IpAddr}
 use Rattle.std.specs.declared.net.ip_addr.IpAddr.TheVariants as ips
 use Rattle.std.specs.declared.net.socket_addr.SocketAddr.{SocketAddr}
-use Rattle.node_text.specs.Numbers.{from_one, number_of}
+use Rattle.node_text.specs.Numbers.{number_of}
 
 -- an IPv4 address, or an IPv6 address between `[` (91) and `]` (93)
 abbrev pub IsHostText : List ℕ → IpAddr → Type 0

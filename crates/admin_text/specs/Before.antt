@@ -1,21 +1,10 @@
 -- What the lines before a line say (profile).
-use Rattle.std.specs.Prelude.{◌&&◌, ◌+◌, ℕ, Bool, false, List, [], ◌∷◌, Option, Some, None, bytes_eq, if◌then◌else◌, slice_get}
-use Rattle.std.specs.Option.{option_or}
-use Rattle.admin_text.specs.LineKinds.{line_word}
+use Rattle.std.specs.Prelude.{◌&&◌, ◌+◌, ℕ, Bool, List, [], ◌∷◌, Option, Some, None, if◌then◌else◌, slice_get}
+use Rattle.admin_text.specs.LineKinds.{is_of_kind, is_word, line_word}
 use Rattle.admin_text.specs.Statements.{Said}
 use Rattle.admin_text.specs.declared.line_kinds.LineKind.{LineKind}
-use Rattle.admin_text.specs.declared.line_kinds.LineKind.TheVariants as kinds
 
--- the word that is there is this one
-abbrev pub is_word : Option (List ℕ) → List ℕ → Bool
-is_word None word = false
-is_word (Some other) word = bytes_eq other word
-
--- the words are those of a line of this kind
-abbrev pub is_of_kind : LineKind → List (List ℕ) → Bool
-is_of_kind kind words = is_word (slice_get words 0) (line_word kind)
-
--- they are, and have this word at this place
+-- the words are those of a line of this kind, and have this word at this place
 abbrev pub has_word : LineKind → ℕ → List ℕ → List (List ℕ) → Bool
 has_word kind place word words = is_of_kind kind words && is_word (slice_get words place) word
 

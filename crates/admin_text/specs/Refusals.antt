@@ -1,15 +1,17 @@
 -- What is wrong with a configuration, and how it is said (profile).
-use Rattle.std.specs.Prelude.{◌≡◌, ◌⊎◌, ◌++◌, ◌-◌, ◌==◌, ◌&&◌, ℕ, Bool, true, not, List, [], ◌∷◌, Option, Some, None, codes, filter, is_none, length, map, nat_le, take}
+use Rattle.std.specs.Prelude.{◌≡◌, ◌⊎◌, ◌++◌, ◌-◌, ◌==◌, ◌&&◌, ℕ, Bool, true, not, List, [], ◌∷◌, Option, Some, None, Result, codes, filter, is_none, length, map, nat_le, take}
 use Rattle.std.specs.Fmt.{decimal}
 use Rattle.std.specs.List.{list_all}
 use Rattle.admin_text.specs.Before.{line_of}
-use Rattle.admin_text.specs.LineFaults.{IsJudged}
-use Rattle.admin_text.specs.Statements.{Said, statements_of}
+use Rattle.admin_text.specs.Lines.{IsRead}
+use Rattle.admin_text.specs.Outcomes.{fault_in}
+use Rattle.admin_text.specs.Statements.{Said}
 use Rattle.admin_text.specs.declared.line_kinds.LineKind.{LineKind}
 use Rattle.admin_text.specs.declared.line_kinds.LineKind.TheVariants as kinds
 use Rattle.admin_text.specs.declared.faults.Fault.{Fault}
 use Rattle.admin_text.specs.declared.faults.FaultyLine.{FaultyLine}
 use Rattle.admin_text.specs.declared.refusals.Refusal.{Refusal}
+use Rattle.admin_text.specs.declared.settings.Setting.{Setting}
 
 -- ---- which lines are refused
 
@@ -22,10 +24,10 @@ listed number (Some fault) = record { number = number; fault = fault } ∷ []
 abbrev pub AreFaultsOf : List Said → List Said → List FaultyLine → Type 0
 AreFaultsOf before [] found = found ≡ []
 AreFaultsOf before (line ∷ lines) found =
-    (fault : Option Fault)
+    (outcome : Result Setting Fault)
     × (more : List FaultyLine)
-    × IsJudged before line.1 fault
-    × (found ≡ listed line.0 fault ++ more)
+    × IsRead before line.1 outcome
+    × (found ≡ listed line.0 (fault_in outcome) ++ more)
     × AreFaultsOf (before ++ line ∷ []) lines more
 
 -- the faults of all these lines, or 20 of the first ones

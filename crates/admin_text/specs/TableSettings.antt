@@ -1,5 +1,5 @@
 -- What a configuration says of its tables (profile).
-use Rattle.std.specs.Prelude.{◌≡◌, ◌≤◌, ◌<◌, ◌^◌, true, false, List, IfSome, length, map}
+use Rattle.std.specs.Prelude.{◌≡◌, ◌≤◌, ◌<◌, ◌^◌, ◌==◌, ℕ, true, false, List, [], ◌∷◌, IfSome, Some, if◌then◌else◌, length, map}
 use Rattle.std.specs.List.{AllByRecursion}
 use Rattle.table_types.specs.Rosters.{repeats_id, repeats_name}
 use Rattle.table_types.specs.Tables.{Definition, is_definition}
@@ -16,6 +16,16 @@ pub record IsTableSetting (t : TableSetting) : Type 0 where
 -- the tables without their settings
 abbrev pub definitions : List TableSetting → List Definition
 definitions ts = map (λ t. t.definition) ts
+
+-- the tables with this id get a size
+abbrev pub with_rows : ℕ → ℕ → List TableSetting → List TableSetting
+with_rows id rows [] = []
+with_rows id rows (t ∷ ts) = (if t.definition.id == id then record t { size = Some rows } else t) ∷ with_rows id rows ts
+
+-- the tables with this id keep their live rows
+abbrev pub kept_in : ℕ → List TableSetting → List TableSetting
+kept_in id [] = []
+kept_in id (t ∷ ts) = (if t.definition.id == id then record t { nopurge = Some tt } else t) ∷ kept_in id ts
 
 -- there are at most 64 tables, no two of which have one id or one name
 pub record AreTables (ts : List TableSetting) : Type 0 where

@@ -1,33 +1,14 @@
 //! Addresses with ports.
-ghost use Rattle.std.specs.Prelude.{◌≡◌, ◌∷◌, ◌++◌, [], ℕ, List, Contains, IfOk, MatchOption};
+ghost use Rattle.std.specs.Prelude.{◌≡◌, ◌∷◌, ◌++◌, [], ℕ, List, Contains, MatchOption};
 ghost use Rattle.std.specs.declared.net.ip_addr.IpAddr.{IpAddr};
 ghost use Rattle.std.specs.declared.net.socket_addr.SocketAddr.{SocketAddr};
-ghost use Rattle.admin_text.specs.Addresses.{IsAddress, IsAddressText, IsHostText, IsLocal};
+ghost use Rattle.admin_text.specs.Addresses.{IsAddressText, IsHostText};
 
-use node_text::{LineError, number_from_one};
+use node_text::number_from_one;
 use std::net::{IpAddr, Ipv4Addr, Ipv6Addr, SocketAddr};
 
 /// The last port.
 const LAST_PORT: u32 = 65_535;
-
-/// Reads an address, or refuses the line.
-pub(crate) fn read_address(word: &[u8]) -> Result<SocketAddr, LineError>
-    ensures { IfOk result IsAddress }
-{
-    address_of(word).ok_or(LineError::Refused)
-}
-
-/// Reads a loopback address, or refuses the line.
-pub(crate) fn read_local_address(word: &[u8]) -> Result<SocketAddr, LineError>
-    ensures { IfOk result (λ address. IsAddress address × IsLocal address) }
-{
-    let address = read_address(word)?;
-    if address.ip().is_loopback() {
-        Ok(address)
-    } else {
-        Err(LineError::Refused)
-    }
-}
 
 /// Reads an address `A.B.C.D:PORT`, or `[IPv6]:PORT` without a zone. The port is from 1.
 pub fn address_of(word: &[u8]) -> Option<SocketAddr>

@@ -1,9 +1,9 @@
 //! What the lines before a line say, whether they are refused or not.
-ghost use Rattle.std.specs.Prelude.{◌≡◌, map, slice_get};
-ghost use Rattle.admin_text.specs.Before.{count_of, has_word, is_of_kind, is_word, line_of, line_with};
+ghost use Rattle.std.specs.Prelude.{◌≡◌, map};
+ghost use Rattle.admin_text.specs.Before.{count_of, has_word, line_of, line_with};
 ghost use Rattle.admin_text.specs.Statements.{said_by};
 
-use crate::line_kinds::LineKind;
+use crate::line_kinds::{LineKind, is_word_at};
 use crate::statements::Statement;
 
 /// Returns the number of the first line of `kind` that has `word` at `place`.
@@ -36,7 +36,7 @@ pub(crate) fn count_of(before: &[Statement<'_>], kind: LineKind) -> usize
 {
     let mut count = 0;
     for statement in before {
-        if is_of_kind(statement.words.as_slice(), kind) {
+        if kind.has(statement.words.as_slice()) {
             count += 1;
         }
     }
@@ -47,22 +47,5 @@ pub(crate) fn count_of(before: &[Statement<'_>], kind: LineKind) -> usize
 fn has_word(words: &[&[u8]], kind: LineKind, place: usize, word: &[u8]) -> bool
     ensures { result ≡ has_word kind place word.now (map (λ word. word.now) words.now) }
 {
-    is_of_kind(words, kind) && is_word_at(words, place, word)
-}
-
-/// Returns whether the line with these words is one of `kind`.
-fn is_of_kind(words: &[&[u8]], kind: LineKind) -> bool
-    ensures { result ≡ is_of_kind kind (map (λ word. word.now) words.now) }
-{
-    is_word_at(words, 0, kind.word().as_bytes())
-}
-
-/// Returns whether `word` stands at `place`.
-fn is_word_at(words: &[&[u8]], place: usize, word: &[u8]) -> bool
-    ensures { result ≡ is_word (slice_get (map (λ word. word.now) words.now) place) word.now }
-{
-    match words.get(place) {
-        Some(other) => *other == word,
-        None => false,
-    }
+    kind.has(words) && is_word_at(words, place, word)
 }

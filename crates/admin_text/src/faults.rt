@@ -20,6 +20,12 @@ pub enum Fault {
     Address(usize),
     /// The word isn't a loopback address with a port.
     Local,
+    /// What comes behind `unix:` isn't the path of a socket.
+    Path(PathFault),
+    /// The word at a place isn't a network.
+    Network(usize),
+    /// The word is neither a level of the log nor `journal`.
+    Level,
     /// There are 15 lines of peers before this one.
     Peers,
     /// The table can't be one.
@@ -62,6 +68,17 @@ pub enum TypeFault {
     Period,
     /// A word before it gives the same data type.
     Repeated,
+}
+
+/// Why a text isn't the path of a socket.
+#[derive(Clone, Copy, Debug, PartialEq, Eq)]
+pub enum PathFault {
+    /// It is empty.
+    Empty,
+    /// It has a NUL.
+    Nul,
+    /// It has this many bytes, more than 107.
+    Long(usize),
 }
 
 /// Why a word isn't a name.

@@ -1,7 +1,8 @@
 //! Sentences that say what is wrong with a configuration, and what is wanted.
 
-use crate::faults::{Fault, NameFault, TableFault, TypeFault};
+use crate::faults::{Fault, NameFault, PathFault, TableFault, TypeFault};
 use crate::line_kinds::LineKind;
+use crate::warnings::Warning;
 use node_text::is_text;
 use std::alloc::{AllocError, Global};
 use table_types::{DataType, KeyKind};
@@ -9,13 +10,20 @@ use table_types::{DataType, KeyKind};
 /// The most bytes of a word that are printed.
 const MOST_SHOWN: usize = 64;
 
+/// What is printed in the place of a word that isn't.
+const STRANGE: &str = "a word with bytes outside 33 to 126";
+
+/// The bytes with which some editors begin a file.
+const BYTE_ORDER_MARK: [u8; 3] = [0xef, 0xbb, 0xbf];
+
 /// Returns what lacks without a line of `kind`.
 pub(crate) fn lacking_sentence(kind: LineKind) -> &'static str {
     match kind {
         LineKind::Node => "no line \"node NAME\" gives the name by which peers know the node",
         LineKind::Listen =>
-            "no line \"listen ADDRESS\" says where the node takes connections of peers",
-        _ => "no line \"table ID NAME KIND LENGTH EXPIRE TYPES..\" gives a table",
+            "no line \"listen ADDRESS\" says where the node takes connections from peers",
+        _ =>
+            "no line \"table ID NAME KIND LENGTH EXPIRE TYPES..\" gives a table, as in \"table 1 t1 integer 4 600000 gpc0 http_req_rate:10000\"",
     }
 }
 
@@ -24,34 +32,32 @@ pub(crate) fn sentence(alloc: Global, words: &[&[u8]], fault: Fault) -> Result<S
     let subject = subject(alloc, words)?;
     let about = subject.as_str();
     match fault {
-        Fault::Unknown => format!(in alloc;
-            "{about}: a line begins with node, listen, admin, section, peer, table, size or nopurge"
-        ),
+        Fault::Unknown => unknown_sentence(alloc, words),
         Fault::Form(kind) => {
             let form = kind.form();
-            format!(in alloc; "{about}: the line is {form}, with neither more words nor fewer")
+            format!(in alloc; "{about}: the line has the form {form}")
         }
         Fault::Repeated(line) => format!(in alloc;
-            "{about}: line {line} says this already, and only one line may"
+            "{about}: line {line} sets this already, so one of the two lines has to go"
         ),
         Fault::Name(place, fault) => name_sentence(alloc, about, shown(words, place), fault),
         Fault::Taken(line) => format!(in alloc;
             "{about}: line {line} has this name already, and the node and its peers have distinct names"
         ),
         Fault::Peers => format!(in alloc; "{about}: a node has at most 15 peers"),
-        Fault::Address(place) => {
-            let word = shown(words, place);
-            format!(in alloc;
-                "{about}: an address is A.B.C.D:PORT or [IPv6]:PORT with a port from 1 to 65535, not {word}"
-            )
-        }
-        Fault::Local => {
+        Fault::Address(place) => address_sentence(alloc, about, words, place),
+        Fault::Local => local_sentence(alloc, about, shown(words, 1)),
+        Fault::Path(fault) => path_sentence(alloc, about, fault),
+        Fault::Network(place) => network_sentence(alloc, about, shown(words, place)),
+        Fault::Level => {
             let word = shown(words, 1);
-            format!(in alloc; "{about}: the address is in 127.0.0.0/8 or is [::1], not {word}")
+            format!(in alloc;
+                "{about}: the word is error, warn, info, debug or journal, not {word}"
+            )
         }
         Fault::NoTable => {
             let id = shown(words, 1);
-            format!(in alloc; "{about}: no line \"table {id} ..\" stands above")
+            format!(in alloc; "{about}: no table above has the id {id}")
         }
         Fault::Rows => {
             let word = shown(words, 2);
@@ -61,6 +67,67 @@ pub(crate) fn sentence(alloc: Global, words: &[&[u8]], fault: Fault) -> Result<S
         }
         Fault::Table(fault) => table_sentence(alloc, about, words, fault),
     }
+}
+
+/// Returns the sentence that says what is surely meant otherwise in the line with these words.
+pub(crate) fn warning_sentence(
+    alloc: Global,
+    words: &[&[u8]],
+    warning: Warning,
+) -> Result<String, AllocError> {
+    let subject = subject(alloc, words)?;
+    let about = subject.as_str();
+    match warning {
+        Warning::Port(line) => format!(in alloc;
+            "{about}: line {line} has this port for peers, and requests have one of their own"
+        ),
+        Warning::Overlap(line) => format!(in alloc;
+            "{about}: line {line} has this address already, and only one can be listened at"
+        ),
+        Warning::Own(line) => format!(in alloc;
+            "{about}: line {line} has this address for the node itself, and a peer is another one"
+        ),
+        Warning::Shared(line) => format!(in alloc;
+            "{about}: line {line} has a peer at this address, and each has its own"
+        ),
+        Warning::Length => length_warning_sentence(alloc, about, shown(words, 4)),
+        Warning::Section => format!(in alloc;
+            "{about}: the name on the wire of a table of a peers section is / and its name, without the section"
+        ),
+        Warning::Expire => {
+            let word = shown(words, 5);
+            format!(in alloc;
+                "{about}: HAProxy's rows expire after at most 2147483647 ms, not {word}, or never, which is 0"
+            )
+        }
+        Warning::Period(place) => {
+            let word = shown(words, place);
+            format!(in alloc;
+                "{about}: HAProxy's periods are at most 2147483647 ms, so no table of HAProxy's has {word}"
+            )
+        }
+    }
+}
+
+/// Returns the sentence about the length of strings that is HAProxy's `len`, it seems.
+fn length_warning_sentence(alloc: Global, about: &str, word: &str) -> Result<String, AllocError> {
+    format!(in alloc;
+        "{about}: HAProxy's \"string len N\" is length N + 1 here, and \"string\" without len is 32; is {word} right?"
+    )
+}
+
+/// Returns the sentence about a line that begins with none of the words, or with a byte order mark.
+fn unknown_sentence(alloc: Global, words: &[&[u8]]) -> Result<String, AllocError> {
+    let word = shown(words, 0);
+    let hint = match words.first() {
+        Some(first) if first.starts_with(&BYTE_ORDER_MARK) =>
+            "; this one begins with a byte order mark, EF BB BF, which has to go",
+        _ if word == "bind" => "; HAProxy's bind is \"listen ADDRESS\" here, and there is one",
+        _ => "",
+    };
+    format!(in alloc;
+        "{word} begins no line; a line begins with node, listen, admin, metrics, section, peer, table, size, nopurge or log{hint}"
+    )
 }
 
 /// Returns the sentence about a word that isn't a name.
@@ -81,6 +148,51 @@ fn name_sentence(
     }
 }
 
+/// Returns the sentence about the word at `place`, which isn't an address.
+fn address_sentence(
+    alloc: Global,
+    about: &str,
+    words: &[&[u8]],
+    place: usize,
+) -> Result<String, AllocError> {
+    let word = shown(words, place);
+    let more = match shown(words, 0) {
+        "admin" => "; requests come over loopback, as at 127.0.0.1:9101, or at a socket, unix:PATH",
+        "peer" => "; the line has the form \"peer NAME ADDRESS\"",
+        _ => "",
+    };
+    format!(in alloc;
+        "{about}: an address is A.B.C.D:PORT or [IPv6]:PORT, without a zone or leading zeros, with a port from 1 to 65535, not {word}{more}"
+    )
+}
+
+/// Returns the sentence about an address for requests that isn't a loopback address.
+fn local_sentence(alloc: Global, about: &str, word: &str) -> Result<String, AllocError> {
+    format!(in alloc;
+        "{about}: requests come over loopback, so the address is in 127.0.0.0/8 or is [::1], not {word}; \"metrics ADDRESS\" takes any"
+    )
+}
+
+/// Returns the sentence about a word that isn't a network.
+fn network_sentence(alloc: Global, about: &str, word: &str) -> Result<String, AllocError> {
+    format!(in alloc;
+        "{about}: a network is A.B.C.D, A.B.C.D/0 to /32, an IPv6 address, or one with /0 to /128 behind it, without port or brackets, and a space stands before the next one, not {word}"
+    )
+}
+
+/// Returns the sentence about what isn't the path of a socket.
+fn path_sentence(alloc: Global, about: &str, fault: PathFault) -> Result<String, AllocError> {
+    match fault {
+        PathFault::Empty => format!(in alloc;
+            "{about}: the path of a socket comes right behind unix:"
+        ),
+        PathFault::Nul => format!(in alloc; "{about}: the path of a socket has no NUL"),
+        PathFault::Long(length) => format!(in alloc;
+            "{about}: the path of a socket has at most 107 bytes, not {length}"
+        ),
+    }
+}
+
 /// Returns the sentence about a line of a table.
 fn table_sentence(
     alloc: Global,
@@ -93,7 +205,7 @@ fn table_sentence(
         TableFault::Id => {
             let id = shown(words, 1);
             format!(in alloc;
-                "{about}: the id is a number from 1 to 2147483647 without leading zeros, not {id}"
+                "{about}: the id is a number from 1 to 2147483647 without leading zeros, not {id}; the line begins \"table ID NAME KIND\""
             )
         }
         TableFault::TakenId(line) => {
@@ -149,16 +261,18 @@ fn type_sentence(
         TypeFault::Unknown => {
             let names = type_names(alloc)?;
             let names = names.as_str();
-            format!(in alloc; "{about}: a table stores any of {names}, not {word}")
+            format!(in alloc;
+                "{about}: a table stores any of {names}, with spaces between, and a rate with its period in ms, as http_req_rate:10000, not {word}"
+            )
         }
         TypeFault::NoPeriod => format!(in alloc;
             "{about}: a rate has a period of 1 to 4294967295 ms behind it, as in http_req_rate:10000, not {word}"
         ),
         TypeFault::Period => format!(in alloc;
-            "{about}: only a rate has a period, so {word} has to lose what begins with the colon"
+            "{about}: only a rate has a period behind a colon, so not {word}"
         ),
         TypeFault::Repeated => format!(in alloc;
-            "{about}: a data type is given once, and {word} gives it again"
+            "{about}: a table stores each data type once, and {word} stands here a second time"
         ),
     }
 }
@@ -190,8 +304,10 @@ fn subject(alloc: Global, words: &[&[u8]]) -> Result<String, AllocError> {
 /// Returns the word at `place` as it is printed: at most its first 64 bytes, and only if all its bytes are 33 to 126.
 fn shown<'a>(words: &[&'a [u8]], place: usize) -> &'a str {
     match words.get(place) {
-        Some(word) if is_text(word) => str::from_utf8(beginning(word, MOST_SHOWN)).unwrap_or("?"),
-        _ => "?",
+        Some(word) if is_text(word) => str::from_utf8(beginning(word, MOST_SHOWN)).unwrap_or(
+            STRANGE,
+        ),
+        _ => STRANGE,
     }
 }
 

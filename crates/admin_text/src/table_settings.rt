@@ -1,16 +1,11 @@
 //! The tables of a configuration, with their settings.
-ghost use Rattle.std.specs.Prelude.{◌≡◌, ◌<◌, IfOk, IfSome, length};
+ghost use Rattle.std.specs.Prelude.{◌≡◌, None, true};
 ghost use Rattle.std.specs.Option.{unwrap_or};
-ghost use Rattle.node_text.specs.Worlds.{has_like};
-ghost use Rattle.admin_text.specs.TableSettings.{AreTables, IsTableSetting, definitions};
+ghost use Rattle.table_types.specs.Tables.{is_definition};
+ghost use Rattle.admin_text.specs.TableSettings.{kept_in, with_rows};
 
-use node_text::{LineError, are_alike, number, number_from_one, push_within, set_once, table_of};
-use std::alloc::Global;
 use table_cell::TableCell;
-use table_types::{Roster, TableDef};
-
-/// The last id of a table in a configuration: other nodes may keep ids in 32 bits with a sign.
-const LAST_ID: u64 = (1 << 31) - 1;
+use table_types::TableDef;
 
 /// The greatest number of rows that a table stores.
 const MOST_ROWS: u32 = TableCell::MOST_ROWS as u32;
@@ -27,93 +22,44 @@ pub struct TableSetting {
 }
 
 impl TableSetting {
+    /// Returns a table of which no line sets anything.
+    pub(crate) fn new(definition: TableDef) -> TableSetting
+        ensures made { result ≡ record { definition = definition; size = None; nopurge = None } }
+        ensures defined { is_definition definition ≡ true }
+    {
+        TableSetting {
+            definition,
+            size: None,
+            nopurge: None,
+        }
+    }
+
     /// Returns the greatest number of rows that the table stores: 1,000,000 unless a line says otherwise.
     pub fn most_rows(&self) -> u32
         ensures { result ≡ unwrap_or self.now.size 1000000 }
     {
         self.size.unwrap_or(MOST_ROWS)
     }
-
-    /// Reads a line `size ID ROWS` or `nopurge ID`, each at most once, from its first word and those after the id.
-    fn set(&mut self, kind: &[u8], words: &[&[u8]]) -> Result<(), LineError>
-        ensures table { IsTableSetting self.old → IsTableSetting self.new }
-        ensures definition { self.new.definition ≡ self.old.definition }
-    {
-        match (kind, words) {
-            (b"size", [size]) => {
-                let size = number_from_one(size, MOST_ROWS).ok_or(LineError::Refused)?;
-                set_once(&mut self.size, size)
-            }
-            (b"nopurge", []) => set_once(&mut self.nopurge, ()),
-            _ => Err(LineError::Refused),
-        }
-    }
 }
 
-/// Reads a table, from the words after `table`. No other table has its id or its name.
-pub(crate) fn read_table(
-    alloc: Global,
-    tables: &mut Vec<TableSetting>,
-    words: &[&[u8]],
-) -> Result<(), LineError>
-    ensures { AreTables tables.old.items → AreTables tables.new.items }
+/// Sets the greatest number of rows of the tables with this id.
+pub(crate) fn set_rows(tables: &mut [TableSetting], id: u64, rows: u32)
+    ensures { tables.new ≡ with_rows id rows tables.old }
 {
-    let table = table_setting_of(alloc, words)?;
-    if has_like(tables.as_slice(), &table.definition) {
-        return Err(LineError::Refused);
-    }
-    push_within(tables, Roster::MOST, table)
-}
-
-/// Reads what a line `kind` sets of the table whose id `id` writes, from the words after that.
-pub(crate) fn read_setting(
-    tables: &mut Vec<TableSetting>,
-    kind: &[u8],
-    id: &[u8],
-    words: &[&[u8]],
-) -> Result<(), LineError>
-    ensures { AreTables tables.old.items → AreTables tables.new.items }
-{
-    let index = index_of(tables.as_slice(), id).ok_or(LineError::Refused)?;
-    tables[index].set(kind, words)
-}
-
-/// Reads a table of which no line has set anything yet, from the words after `table`.
-fn table_setting_of(alloc: Global, words: &[&[u8]]) -> Result<TableSetting, LineError>
-    ensures { IfOk result IsTableSetting }
-{
-    let definition = table_of(alloc, words)?;
-    if definition.id() > LAST_ID {
-        return Err(LineError::Refused);
-    }
-    Ok(TableSetting {
-        definition,
-        size: None,
-        nopurge: None,
-    })
-}
-
-/// Returns the index of the table whose id `word` writes.
-fn index_of(tables: &[TableSetting], word: &[u8]) -> Option<usize>
-    ensures { IfSome result (λ index. index < length tables.now) }
-{
-    let id = number(word, u64::MAX)?;
-    for (index, table) in tables.iter().enumerate() {
+    for table in tables.iter_mut() {
         if table.definition.id() == id {
-            return Some(index);
+            table.size = Some(rows);
         }
     }
-    None
 }
 
-/// Returns whether one of the tables has the id or the name of `table`.
-fn has_like(tables: &[TableSetting], table: &TableDef) -> bool
-    ensures { result ≡ has_like table.now (definitions tables.now) }
+/// Sets that the tables with this id keep their live rows.
+pub(crate) fn set_nopurge(tables: &mut [TableSetting], id: u64)
+    ensures { tables.new ≡ kept_in id tables.old }
 {
-    for other in tables {
-        if are_alike(table, &other.definition) {
-            return true;
+    for table in tables.iter_mut() {
+        if table.definition.id() == id {
+            table.nopurge = Some(());
         }
     }
-    false
 }

@@ -4,8 +4,7 @@ use Rattle.std.specs.Prelude.{◌↔◌, OnErr, OnOk}
 use Rattle.std.proofs.lemmas.List.{append-nil}
 use Rattle.std.proofs.KnownBytes.{Appends-nil, Appends-trans, Consumes-nil, Consumes-trans}
 use Rattle.std.specs.Io.KnownBytes.{Appends, Consumes}
-use Rattle.peers_devices.specs.Writing.{AreWritten, written}
-use Rattle.peers_devices.specs.declared.writes.Writes.{Writes}
+use Rattle.peers_devices.specs.Writing.{AreWritten, WriteCounts, written}
 use Rattle.session_core.specs.declared.event.Event.{Event}
 use Rattle.session_core.specs.declared.event.Event.TheVariants as events
 use Rattle.session_core.specs.declared.state.State.TheVariants as states
@@ -175,14 +174,14 @@ still_stops : (shards : ShardsState) {untouched : Type 0} (w : WorkerAt) (e : Se
 still_stops shards w e seat event error received sent reads (inl (still, none, halts)) = inl (subst (λ (x : Option Event). IsRead (received ≡ []) x received) none reads, none, halts)
 still_stops shards w e seat event error received sent reads (inr more) = inr more
 
-ok_way : {untouched : Type 0} (at_end : Type 0) (w e : WorkerAt) (gave : Outcome) (from to a b : Option (List ℕ)) (x y : Writes)
+ok_way : {untouched : Type 0} (at_end : Type 0) (w e : WorkerAt) (gave : Outcome) (from to a b : Option (List ℕ)) (x y : WriteCounts)
     → (event : Option Event) × (received sent : List ℕ) × IsRead at_end event received × TakesTurn untouched w event sent e × Consumes from to received × AreWritten (written a x) (written b y) sent
     → ((gave ≡ outcomes.Closed) ↔ (state_of e.session.session.phase ≡ states.Ended)) → HasTaken w (Ok gave) e from to a b
 ok_way at_end w e gave from to a b x y (event, received, sent, given, takes, consumed, wrote) closed =
     let reads = still_read at_end event received given in
     (received, sent, ((event, reads, still_takes w e event received sent reads takes), closed), consumed, wrote.0)
 
-err_way : (shards : ShardsState) {untouched : Type 0} (at_end : Type 0) (w e : WorkerAt) (error : EngineError) (from to a b : Option (List ℕ)) (x y : Writes)
+err_way : (shards : ShardsState) {untouched : Type 0} (at_end : Type 0) (w e : WorkerAt) (error : EngineError) (from to a b : Option (List ℕ)) (x y : WriteCounts)
     → (event : Option Event) × (received sent : List ℕ) × IsRead at_end event received × StopsTurn shards untouched w event error sent e.session.session e.seat × Consumes from to received × AreWritten (written a x) (written b y) sent
     → state_of e.session.session.phase ≡ states.Ended → HasTaken w (Err error) e from to a b
 err_way shards at_end w e error from to a b x y (event, received, sent, given, stops, consumed, wrote) over =
@@ -190,7 +189,7 @@ err_way shards at_end w e error from to a b x y (event, received, sent, given, s
     (received, sent, ((event, shards, reads, still_stops shards w e.session.session e.seat event error received sent reads stops), over), consumed, wrote.0)
 
 -- a turn, from the contract for its success and the one for its error
-pub both_ways : (shards : ShardsState) (at_end untouched : Type 0) (w e : WorkerAt) (gave : Result Outcome EngineError) (from to a b : Option (List ℕ)) (x y : Writes)
+pub both_ways : (shards : ShardsState) (at_end untouched : Type 0) (w e : WorkerAt) (gave : Result Outcome EngineError) (from to a b : Option (List ℕ)) (x y : WriteCounts)
     → OnOk gave ((event : Option Event) × (received sent : List ℕ) × IsRead at_end event received × TakesTurn untouched w event sent e × Consumes from to received × AreWritten (written a x) (written b y) sent)
     → IfOk gave (λ t. (t ≡ outcomes.Closed) ↔ (state_of e.session.session.phase ≡ states.Ended))
     → IfErr gave (λ error. (event : Option Event) × (received sent : List ℕ) × IsRead at_end event received × StopsTurn shards untouched w event error sent e.session.session e.seat × Consumes from to received × AreWritten (written a x) (written b y) sent)

@@ -4,6 +4,7 @@ use Rattle.std.specs.List.{AllByRecursion}
 use Rattle.table_types.specs.declared.change.Change.TheVariants as changes
 use Rattle.table_types.specs.declared.data_type.DataType.TheVariants as types
 use Rattle.table_types.specs.declared.key.Key.TheVariants as keys
+use Rattle.table_types.specs.declared.version.Version.TheVariants as versions
 use Rattle.table_cell.specs.declared.events.CellEvent.{CellEvent}
 use Rattle.table_cell.specs.declared.events.CellEvent.TheVariants as events
 use Rattle.table_shards.specs.Receipts.{ReceiptState, SeatState, receipts_of}
@@ -16,11 +17,11 @@ IsTrack seat key r = r.event ≡ events.Track seat (keys.Int key) (changes.Add t
 abbrev pub HasTracked : ℕ → SeatState → Type 0
 HasTracked tracks s = (length (receipts_of 1 s) ≡ tracks) × AllByRecursion (IsTrack s.number s.number) (receipts_of 1 s)
 
--- the event is one of the worker: it opens session 1, copies for it, or acknowledges for it; so it changes no row
+-- the event is one of the worker: it opens session 1 with version 2.1, copies for it, or acknowledges for it; so it changes no row
 abbrev pub is_work : CellEvent → Bool
 is_work (events.Copy session kind limit now) = session == 1
 is_work (events.Ack session number) = session == 1
-is_work (events.Open session version) = session == 1
+is_work (events.Open session versions.V21) = session == 1
 is_work event = false
 
 -- the seat of a thread has tracked as often as the thread was asked to, and any other seat has done the worker's work alone

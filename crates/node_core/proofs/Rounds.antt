@@ -1,5 +1,5 @@
 -- Rounds end: each of them leaves one peer less that was asked no later than the one that finishes.
-use Rattle.std.proofs.Common.{◌≡◌, ℕ, zero, suc, ◌+◌, ◌-◌, ◌*◌, ◌≤◌, Bool, true, false, not, ◌&&◌, ◌||◌, cond, List, [], ◌∷◌, length, Option, Some, None, ◌⊎◌, inl, inr, refl, sym, ap, ◌∙◌, subst, arith}
+use Rattle.std.proofs.Common.{◌≡◌, ℕ, zero, suc, ◌+◌, ◌-◌, ◌*◌, ◌≤◌, ◌<◌, Bool, true, false, not, ◌&&◌, ◌||◌, cond, List, [], ◌∷◌, length, Option, Some, None, ◌⊎◌, inl, inr, refl, sym, ap, ◌∙◌, subst, arith}
 use Rattle.std.specs.Prelude.{is_none, slice_get}
 use Rattle.std.specs.List.{list_all}
 use Rattle.std.proofs.lemmas.Bool.{cases_eq, eq-eqb, false≢true, le-leb}
@@ -7,7 +7,7 @@ use Rattle.std.proofs.lemmas.Bool.Decides.{nat_tests}
 use Rattle.node_core.specs.declared.asking.Standing.{Standing}
 use Rattle.node_core.specs.declared.asking.Standing.TheVariants as standings
 use Rattle.node_core.specs.declared.asking.Candidate.{Candidate}
-use Rattle.node_core.specs.CatchingUp.{AskingState, asked, can_be_asked, changed, is_due, is_first, is_no_later, is_next, is_rested, owes, stood}
+use Rattle.node_core.specs.CatchingUp.{AskingState, asked, brought, can_be_asked, changed, heard, is_asked, is_due, is_first, is_no_later, is_next, is_rested, owes, stood}
 use Rattle.node_core.specs.AskingRuns.{Answer, Finished, Partial, Nothing, CanBeAsked, Rounds, answered, was_before}
 
 -- ---- tests
@@ -308,3 +308,44 @@ goes_on answers peer now (q ∷ ps) a e none (c, found, can, before) finish (nex
         | inr (x, is) ↦ inr (x, subst (λ (m : ℕ). is_next x m e ≡ true) (next_time now (length ps)) is)
       ]
     ]
+
+-- ---- a peer that brings rows
+
+not_rested : (now later : ℕ) → later < now + 60000 → is_rested later (Some now) ≡ false
+not_rested now later soon = grind (arith, nat_tests)
+
+asked_due : (s : Standing) (rested : Bool) → is_asked s ≡ true → rested ≡ false → is_due s rested ≡ false
+asked_due standings.Asked rested owes h = h
+asked_due standings.Away rested owes h = cc
+asked_due standings.Unasked rested owes h = cc
+asked_due standings.Partial rested owes h = cc
+
+not_due : (c : Candidate) (now later : ℕ) → is_asked c.standing ≡ true → later < now + 60000 → can_be_asked later (brought now c) ≡ false
+not_due c now later owes soon = rw owes (asked_due c.standing (is_rested later (Some now)) owes (not_rested now later soon))
+
+nobody_first : (now : ℕ) (peers : List Candidate) (o : Option Candidate) (p : Candidate) → o ≡ Some p → can_be_asked now p ≡ false → is_first now peers o ≡ false
+nobody_first now peers None p is away = cc
+nobody_first now peers (Some q) p is away = by (can_be_asked now q) (ap (can_be_asked now) (some_same is) ∙ away)
+  where
+    some_same : Some q ≡ Some p → q ≡ p
+    some_same is = cc
+
+    by : (b : Bool) → b ≡ false → (b && list_all (λ r. not (can_be_asked now r) || is_no_later q.asked_at r.asked_at) peers) ≡ false
+    by true h = cc
+    by false h = refl
+
+none_is_next : (up none first : Bool) → first ≡ false → (not up && (none && first)) ≡ false
+none_is_next true none first h = refl
+none_is_next false true first h = h
+none_is_next false false first h = refl
+
+owing : (o : Option Candidate) → owes o ≡ true → (p : Candidate) × (o ≡ Some p) × (is_asked p.standing ≡ true)
+owing None h = cc
+owing (Some p) h = (p, refl, h)
+
+pub not_asked_meanwhile : (a : AskingState) (peer now later : ℕ) → owes (slice_get a.peers peer) ≡ true → later < now + 60000 → is_next peer later (heard peer now a) ≡ false
+not_asked_meanwhile a peer now later asked soon =
+    let it = owing (slice_get a.peers peer) asked in
+    let peers = changed (brought now) peer a.peers in
+    none_is_next a.up_to_date (is_none (heard peer now a).awaited) (is_first later peers (slice_get peers peer))
+    (nobody_first later peers (slice_get peers peer) (brought now it.0) (it_changes (brought now) a.peers peer it.0 it.1) (not_due it.0 now later it.2 soon))

@@ -14,7 +14,7 @@ pub record AskingState : Type 0 where
 
 -- ---- the next peer
 
--- a minute has passed since the peer was asked, if it ever was
+-- a minute has passed since the peer was asked, or brought a row after that, if it ever was
 abbrev pub is_rested : ℕ → Option ℕ → Bool
 is_rested now None = true
 is_rested now (Some asked) = nat_le 60000 (now - asked)
@@ -94,8 +94,12 @@ partly_finished peer a = if owes (slice_get a.peers peer) then stood standings.P
 abbrev pub heard_from : ℕ → ℕ → Awaited → Awaited
 heard_from peer now w = if w.peer == peer then record w { since = now } else w
 
+-- one that owes an answer isn't asked again for a minute from then on
+abbrev pub brought : ℕ → Candidate → Candidate
+brought now p = if is_asked p.standing then record p { asked_at = Some now } else p
+
 abbrev pub heard : ℕ → ℕ → AskingState → AskingState
-heard peer now a = record a { awaited = option_map (heard_from peer now) a.awaited }
+heard peer now a = record a { awaited = option_map (heard_from peer now) a.awaited; peers = changed (brought now) peer a.peers }
 
 -- ---- by the clock
 

@@ -1,6 +1,15 @@
 pub mod AskingRuns
 pub mod CatchingUp
+pub mod Defining
+pub mod Differences
 pub mod Doors
+pub mod Levels
+pub mod Needs
+pub mod NumberTimes
+pub mod Onces
+pub mod Reaching
+pub mod Renewals
 pub mod Rests
+pub mod SessionEnds
 pub mod Ticks
 pub mod WriteTimes

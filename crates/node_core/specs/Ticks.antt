@@ -1,5 +1,5 @@
 -- When the ticks of a session come.
-use Rattle.std.specs.Prelude.{ℕ, ◌+◌, ◌-◌, ◌*◌, ◌^◌, Bool, not, ◌&&◌, ◌==◌, nat_lt, nat_le, min, max, if◌then◌else◌}
+use Rattle.std.specs.Prelude.{ℕ, ◌+◌, ◌-◌, ◌*◌, ◌^◌, Bool, false, not, ◌&&◌, ◌==◌, nat_lt, nat_le, min, max, if◌then◌else◌}
 use Rattle.node_core.specs.declared.ticks.Ticks.{Ticks}
 use Rattle.node_core.specs.declared.ticks.Traffic.{Traffic}
 
@@ -18,6 +18,17 @@ is_lively now t = nat_lt (now - t.lively) 2500
 -- a lively session ticks when the time after its last tick is over, any other one when it owes a heartbeat or has heard nothing for 10 s
 abbrev pub next_due : ℕ → Ticks → ℕ
 next_due now t = if is_lively now t then t.next else max t.next (min (later 3000 t.traffic.sent_at) (later 10000 t.heard))
+
+-- the ticks of a session that begins: the first is due at once
+abbrev pub begun : ℕ → Ticks
+begun now = record {
+  due = now;
+  next = now;
+  lively = now;
+  heard = now;
+  put_off = false;
+  traffic = record { sent = 0; received = 0; heartbeats = 0; sent_at = now };
+}
 
 -- ---- what went over the connection
 

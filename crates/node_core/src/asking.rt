@@ -3,7 +3,7 @@
 ghost use Rattle.std.specs.Prelude.{◌≡◌, ◌==◌, ◌||◌, not, IfOk, None, Some, replicate, slice_get};
 ghost use Rattle.std.specs.List.{list_all, list_any};
 ghost use Rattle.node_core.specs.declared.asking.Standing.TheVariants as standings;
-ghost use Rattle.node_core.specs.CatchingUp.{are_partial, asked_if_next, can_be_asked, changed, finished, heard, is_asked, is_away, is_first, is_mute, is_next, is_no_later, is_partial, is_rested, is_settled, lapsed, owes, partly_finished, settled, stood, unanswered};
+ghost use Rattle.node_core.specs.CatchingUp.{are_partial, asked_if_next, brought, can_be_asked, changed, finished, heard, is_asked, is_away, is_first, is_mute, is_next, is_no_later, is_partial, is_rested, is_settled, lapsed, owes, partly_finished, settled, stood, unanswered};
 
 use std::alloc::{AllocError, Global};
 use std::marker::Model;
@@ -14,7 +14,7 @@ pub const PATIENCE: u64 = 5_000;
 /// How long after its start a node waits for sessions with all peers, in milliseconds.
 pub const ALONE: u64 = 5_000;
 
-/// From when a peer is asked to when it can be asked again on the same session, in milliseconds.
+/// From when a peer is asked, or last brings a row, to when it can be asked again on the same session, in milliseconds.
 const PAUSE: u64 = 60_000;
 
 /// How a peer stands to being asked.
@@ -57,7 +57,7 @@ impl Standing {
 #[derive(Clone, Copy, Debug)]
 pub struct Candidate {
     standing: Standing,
-    /// When it was last asked, if it was, in milliseconds since the node began.
+    /// When it was last asked, or brought a row and owed an answer, in milliseconds since the node began.
     asked_at: Option<u64>,
 }
 
@@ -74,7 +74,7 @@ pub struct Awaited {
 ///
 /// It asks one peer at a time, and of those that can be asked the one that was asked longest ago. It waits for a peer until that
 /// ends its resync, loses its session, or has brought no row for `PATIENCE`; an end that comes later counts all the same. A peer
-/// that didn't answer, or only in part, can be asked again after a minute, or on its next session. The node is up to date once a
+/// that didn't answer, or only in part, can be asked again a minute after it was asked or last brought a row, or on its next session. The node is up to date once a
 /// peer ends its resync as finished, or all that have a session have ended it as partial.
 #[derive(Drop)]
 pub struct Asking {
@@ -122,6 +122,19 @@ impl Candidate {
             Standing::Away => false,
             Standing::Unasked => true,
             Standing::Asked | Standing::Partial => is_rested(self.asked_at, now),
+        }
+    }
+
+    /// Returns how the peer stands once it has brought a row.
+    fn brought(self, now: u64) -> Candidate
+        ensures { result ≡ brought now self }
+    {
+        if !self.standing.is_asked() {
+            return self;
+        }
+        Candidate {
+            asked_at: Some(now),
+            ..self
         }
     }
 }
@@ -177,6 +190,15 @@ fn set_asked(peers: &mut [Candidate], peer: usize, now: u64)
             standing: Standing::Asked,
             asked_at: Some(now),
         };
+    }
+}
+
+/// Notes that the peer with this index has brought a row.
+fn set_brought(peers: &mut [Candidate], peer: usize, now: u64)
+    ensures { peers.new ≡ changed (brought now) peer peers.old }
+{
+    if let Some(one) = peers.get(peer) {
+        peers[peer] = one.brought(now);
     }
 }
 
@@ -303,7 +325,7 @@ impl Asking {
         true
     }
 
-    /// Notes that the peer with this index has brought a row.
+    /// Notes that the peer with this index has brought a row. If it owes an answer, it isn't asked again for a minute from then on.
     pub fn hear(&mut self, peer: usize, now: u64)
         ensures { self.new ≡ heard peer now self.old }
     {
@@ -312,6 +334,7 @@ impl Asking {
                 self.awaited = Some(Awaited { peer, since: now });
             }
         }
+        set_brought(self.peers.as_mut_slice(), peer, now);
     }
 
     /// Notes that the peer with this index has ended its resync as finished, which counts if it was asked.

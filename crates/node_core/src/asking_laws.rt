@@ -1,9 +1,9 @@
 //! Laws of a node that asks its peers for all rows, which hold whatever the program does.
 
-ghost use Rattle.std.specs.Prelude.{◌≡◌, ◌≤◌, ◌+◌, ◌*◌, ◌⊎◌, ℕ, false, true, List, None, Some, length};
+ghost use Rattle.std.specs.Prelude.{◌≡◌, ◌≤◌, ◌<◌, ◌+◌, ◌*◌, ◌⊎◌, ℕ, false, true, List, None, Some, length, slice_get};
 ghost use Rattle.std.specs.List.{list_any};
 ghost use Rattle.node_core.specs.declared.asking.Awaited.{Awaited};
-ghost use Rattle.node_core.specs.CatchingUp.{AskingState, is_next, lapsed};
+ghost use Rattle.node_core.specs.CatchingUp.{AskingState, heard, is_next, lapsed, owes};
 ghost use Rattle.node_core.specs.AskingRuns.{Answer, CanBeAsked, HasSession, Happening, Asks, Finished, IsAwaited, Passes, Rounds, after, after_all, is_from, is_heard_before, may_end};
 
 /// No two peers are asked at once. While a peer is waited for, no peer is next to be asked; and a peer that is waited for is so
@@ -19,6 +19,11 @@ pub fn one_at_a_time()
 pub fn a_mute_peer_holds_nobody_up()
     ensures { (a : AskingState) (peer asked now : ℕ) (hs : List Happening) → is_next peer asked a ≡ true → list_any (is_from peer) hs ≡ false → asked + 5000 ≤ now →
         IsAwaited peer (after (Passes now) (after_all hs (after (Asks peer asked) a))) → ⊥ }
+{}
+
+/// A peer that owes an answer and brings a row isn't asked for a minute from then on, whoever else is, so what it teaches doesn't begin anew.
+pub fn whoever_brings_rows_goes_on()
+    ensures { (a : AskingState) (peer now later : ℕ) → owes (slice_get a.peers peer) ≡ true → later < now + 60000 → is_next peer later (heard peer now a) ≡ false }
 {}
 
 /// A node that has a peer that ends its resync as finished if it is asked comes to be up to date. From any state, once a minute has

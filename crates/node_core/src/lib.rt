@@ -1,21 +1,53 @@
 //! What a node that stays decides, as values and machines without threads, sockets or a clock: which peer it asks for all rows, when the
-//! ticks of a session come, how long its writes may take, how long a peer is left alone, and which door closes its connection.
+//! ticks of a session come, how long its writes may take, how long a peer is left alone, which door closes its connection,
+//! and since when a row waits.
 #![tactic(auto)]
 
 mod asking;
 mod asking_laws;
+mod build;
+mod defining;
+mod difference_laws;
+mod differences;
 mod doors;
+mod events;
+mod last_errors;
+mod levels;
+mod needs;
+mod number_laws;
+mod number_times;
+mod once;
+mod reaching;
+mod renewals;
 mod rests;
 #[cfg(test)]
 mod scenarios;
+mod session_ends;
 mod tick_laws;
 mod ticks;
 mod write_times;
 
 pub use asking::{ALONE, Asking, PATIENCE};
-pub use asking_laws::{a_mute_peer_holds_nobody_up, a_node_comes_to_be_up_to_date, one_at_a_time};
+pub use asking_laws::{
+    a_mute_peer_holds_nobody_up, a_node_comes_to_be_up_to_date, one_at_a_time,
+    whoever_brings_rows_goes_on,
+};
+pub use build::{KIT, VERSION};
+pub use defining::Defining;
+pub use difference_laws::what_differs_is_not_learned;
+pub use differences::{Difference, TableShape};
 pub use doors::is_longest;
+pub use events::{Event, HelloRefusal, Omission, PeerEvent, Port, ResyncEnd, Sender};
+pub use last_errors::LastError;
+pub use levels::Level;
+pub use needs::{Need, push_lacking, reason_of};
+pub use number_laws::an_age_is_never_too_great;
+pub use number_times::NumberTimes;
+pub use once::{Once, SaidNames};
+pub use reaching::{Failure, Reaching};
+pub use renewals::{Renewal, Renewing};
 pub use rests::rests_until;
-pub use tick_laws::ticks_come;
+pub use session_ends::SessionEnd;
+pub use tick_laws::{heartbeats_come, ticks_come};
 pub use ticks::{Ticks, Traffic};
 pub use write_times::{WRITE_TIME, WriteTime};

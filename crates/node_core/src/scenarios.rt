@@ -1,8 +1,10 @@
-//! What a node does whose peers answer, are mute, go and come back; and when the ticks of a session come.
+//! What a node does whose peers answer, are mute, go and come back; when the ticks of a session come; and since when numbers are
+//! assigned.
 
 use crate::asking::Asking;
+use crate::number_times::NumberTimes;
 use crate::ticks::{Ticks, Traffic};
-use std::alloc::Global;
+use std::alloc::{AllocError, Global};
 
 /// A call of the machine that asks peers, and what it returns.
 enum Call {
@@ -58,6 +60,19 @@ static AGAIN: [Call; 13] = [
     Call::Finishes(1),
     Call::IsUpToDate(true),
     Call::Asks(0, 70_000, false),
+];
+
+/// A peer that brings rows after the wait for it is over isn't asked again until a minute after the last of them.
+static GOES_ON: [Call; 9] = [
+    Call::Begins(0),
+    Call::Asks(0, 0, true),
+    Call::Lapses(5_000, Some(0)),
+    Call::Hears(0, 30_000),
+    Call::Hears(0, 59_000),
+    Call::Asks(0, 118_999, false),
+    Call::Asks(0, 119_000, true),
+    Call::Finishes(0),
+    Call::IsUpToDate(true),
 ];
 
 /// A session that breaks lets the next peer be asked, and its peer is asked again on its next one.
@@ -118,6 +133,7 @@ fn peers_are_asked(rt: HostRuntime) {
     assert_eq!(rt; first_wrong(rt.alloc(), 2, &LATE), None);
     assert_eq!(rt; first_wrong(rt.alloc(), 1, &UNASKED), None);
     assert_eq!(rt; first_wrong(rt.alloc(), 2, &AGAIN), None);
+    assert_eq!(rt; first_wrong(rt.alloc(), 1, &GOES_ON), None);
     assert_eq!(rt; first_wrong(rt.alloc(), 2, &BROKEN), None);
     assert_eq!(rt; first_wrong(rt.alloc(), 2, &PARTIAL), None);
     assert_eq!(rt; first_wrong(rt.alloc(), 0, &[Call::IsUpToDate(true)]), None);
@@ -171,4 +187,45 @@ fn comes_once_read() -> bool {
 fn ticks_come(rt: HostRuntime) {
     assert_eq!(rt; first_unexpected(&TICKS), None);
     assert!(rt; comes_once_read());
+}
+
+/// Looks at a next number that rises, stays, and begins anew.
+static LOOKS: [(u64, u64); 5] = [(0, 1), (200, 5), (400, 5), (600, 9), (800, 3)];
+
+/// Returns since when numbers are assigned after the first `count` of these looks.
+fn after_looks(alloc: Global, count: usize, number: u32) -> Result<Option<u64>, AllocError> {
+    let mut times = NumberTimes::new(alloc);
+    for (now, next) in LOOKS.iter().take(count) {
+        times.note(*now, *next)?;
+    }
+    Ok(times.since(number))
+}
+
+/// Returns since when a number is assigned of a table that changed at each of 2,000 looks, one each 200 ms.
+fn after_many_looks(alloc: Global, number: u32) -> Result<Option<u64>, AllocError> {
+    let mut times = NumberTimes::new(alloc);
+    for look in 0..2_000u64 {
+        times.note(look * 200, look + 1)?;
+    }
+    Ok(times.since(number))
+}
+
+#[test]
+fn numbers_are_assigned(rt: HostRuntime) {
+    let alloc = rt.alloc();
+    for (number, since) in [
+        (0, Some(0)),
+        (1, Some(200)),
+        (4, Some(200)),
+        (8, Some(600)),
+        (9, None),
+    ] {
+        assert!(rt; after_looks(alloc, 4, number).unwrap_or(since) == since);
+    }
+    for (number, since) in [(2, Some(800)), (3, None)] {
+        assert!(rt; after_looks(alloc, 5, number).unwrap_or(since) == since);
+    }
+    for (number, since) in [(0, Some(0)), (1_000, Some(204_800)), (2_000, None)] {
+        assert!(rt; after_many_looks(alloc, number).unwrap_or(since) == since);
+    }
 }

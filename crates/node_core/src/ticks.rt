@@ -1,7 +1,7 @@
 //! When the ticks of a session come.
 
 ghost use Rattle.std.specs.Prelude.{◌≡◌, ◌-◌, max};
-ghost use Rattle.node_core.specs.Ticks.{after_tick, has_moved, is_due, is_lively, is_put_off, is_tick, is_unread, later, next_due, noted, others, ticked};
+ghost use Rattle.node_core.specs.Ticks.{after_tick, begun, has_moved, is_due, is_lively, is_put_off, is_tick, is_unread, later, next_due, noted, others, ticked};
 
 /// The time between two ticks of a lively session, in milliseconds.
 const TICK: u64 = 100;
@@ -74,7 +74,9 @@ pub struct Ticks {
 
 impl Ticks {
     /// Returns the ticks of a session that begins now.
-    pub fn new(now: u64) -> Ticks {
+    pub fn new(now: u64) -> Ticks
+        ensures { result ≡ begun now }
+    {
         Ticks {
             due: now,
             next: now,

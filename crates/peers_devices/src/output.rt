@@ -38,26 +38,27 @@ pub fn write_all<W: Write + Faults>(output: &mut W, bytes: &[u8]) -> Result<(), 
     ensures sent { IfErr result (λ error. Appends (W.contents output.old) (W.contents output.new) (take (sent_of error) bytes.now)) }
     ensures within { IfErr result (λ error. sent_of error < length bytes.now) }
 {
+    let earlier = output.failures();
     let mut writes = Writes::none();
-    write_all_counted(output, &mut writes, bytes)
+    write_all_counted(output, &mut writes, earlier, bytes)
 }
 
-/// Writes all of the bytes, and adds what the writes came to to `writes`. So an error comes only if a write failed and was counted
-/// (`Failed`), or took none of its bytes, or more than a million writes failed without being counted (`Stuck`).
+/// Writes all of the bytes, and adds what the writes came to to `writes`. Gives up if a write fails and the device's count of failed
+/// calls is then above `earlier` (`Failed`), if a write takes none of its bytes, or if more than a million writes fail without being
+/// counted (`Stuck`).
 ///
 /// Retries a write that fails without being counted, as an interrupted one may.
 pub fn write_all_counted<W: Write + Faults>(
     output: &mut W,
     writes: &mut Writes,
+    earlier: u64,
     bytes: &[u8],
 ) -> Result<(), WriteError>
     ensures ok { OnOk result (AreWritten (written (W.contents output.old) writes.old) (written (W.contents output.new) writes.new) bytes.now) }
     ensures sent { IfErr result (λ error. AreWritten (written (W.contents output.old) writes.old) (written (W.contents output.new) writes.new) (take (sent_of error) bytes.now)) }
     ensures within { IfErr result (λ error. sent_of error < length bytes.now) }
-    ensures failed { (sent : ℕ) → result ≡ Err (WriteError.Failed sent) → Rose (W.failed output.old) (W.failed output.new) }
-    ensures balks { IfErr result (λ error. BalksBy error (written (W.contents output.old) writes.old) (written (W.contents output.new) writes.new)) }
+    ensures balks { IfErr result (λ error. BalksBy error earlier (W.failed output.new) writes.old writes.new) }
 {
-    let earlier = output.failures();
     let mut sent = 0;
     let mut retries = 0;
     while sent < bytes.len() {

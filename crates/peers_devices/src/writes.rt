@@ -1,22 +1,29 @@
 //! What the writes to a device come to.
 ghost use Rattle.std.specs.Prelude.{◌≡◌, Err};
 ghost use Rattle.peers_devices.specs.Failures.{Rose};
-ghost use Rattle.peers_devices.specs.Writing.{CountsIf, CountsOne, IsOneWrite, no_writes, took_none, written};
+ghost use Rattle.peers_devices.specs.Writing.{CountsIf, CountsOne, IsOneWrite, RoseBy, no_writes, took_none, written};
 
 use crate::devices::{Faults, rose};
 use std::io::Write;
+use std::marker::Model;
 
-/// What writes to a device came to so far. A count of writes stays at 2^64 - 1 once it gets there.
+/// What writes to a device came to so far. The device itself counts those that fail. Only a write that is made is counted here. A count
+/// stays at 2^64 - 1 once it gets there.
 #[derive(Clone, Copy, Debug, PartialEq, Eq)]
 pub struct Writes {
-    /// The bytes that they took.
-    pub taken: u64,
-    /// The writes that failed, and that the device counted.
-    pub failed: u64,
-    /// The writes that took none of their bytes and didn't fail.
-    pub idle: u64,
-    /// The writes that failed, and that the device didn't count, such as interrupted ones.
-    pub retried: u64,
+    taken: u64,
+    idle: u64,
+    retried: u64,
+}
+
+impl Model for Writes {
+    ghost use Rattle.peers_devices.specs.Writing.{WriteCounts};
+
+    ghost Value = { WriteCounts };
+
+    ghost view = { λ w. record { taken = w.taken; idle = w.idle; retried = w.retried } };
+
+    ghost inverse = { λ w. record { taken = w.taken; idle = w.idle; retried = w.retried } };
 }
 
 impl Writes {
@@ -26,10 +33,30 @@ impl Writes {
     {
         Writes {
             taken: 0,
-            failed: 0,
             idle: 0,
             retried: 0,
         }
+    }
+
+    /// Returns how many bytes the writes took.
+    pub fn taken(&self) -> u64
+        ensures { result ≡ self.now.taken }
+    {
+        self.taken
+    }
+
+    /// Returns how many writes took none of their bytes and didn't fail.
+    pub fn idle(&self) -> u64
+        ensures { result ≡ self.now.idle }
+    {
+        self.idle
+    }
+
+    /// Returns how many writes failed and weren't counted by the device, such as interrupted ones.
+    pub fn retried(&self) -> u64
+        ensures { result ≡ self.now.retried }
+    {
+        self.retried
     }
 }
 
@@ -40,6 +67,13 @@ pub(crate) enum Unwritten {
     Failed,
     /// It failed, and the device didn't count it, so it may be tried again.
     Uncounted,
+}
+
+/// Returns the sum of both counts, or 2^64 - 1 if the sum is greater.
+fn raised(count: u64, more: usize) -> u64
+    ensures { RoseBy more count result }
+{
+    count.saturating_add(more as u64)
 }
 
 /// Returns a count with one more, which stays at 2^64 - 1 once it gets there.
@@ -61,7 +95,7 @@ fn idle_after(idle: u64, taken: usize, bytes: &[u8]) -> u64
 }
 
 /// Writes some of the bytes, from the first on, and returns how many. The device counts the failure if its count of failed calls rose
-/// above `earlier`. A write whose bytes could make more than 2^64 - 1 in all isn't made, as if it had been interrupted.
+/// above `earlier`.
 pub(crate) fn write_once<W: Write + Faults>(
     output: &mut W,
     writes: &mut Writes,
@@ -71,20 +105,13 @@ pub(crate) fn write_once<W: Write + Faults>(
     ensures once { IsOneWrite (written (W.contents output.old) writes.old) bytes.now result (written (W.contents output.new) writes.new) }
     ensures failed { result ≡ Err Unwritten.Failed → Rose earlier (W.failed output.new) }
 {
-    if writes.taken.checked_add(bytes.len() as u64).is_none() {
-        writes.retried = one_more(writes.retried);
-        return Err(Unwritten::Uncounted);
-    }
     match output.write(bytes) {
         Ok(count) => {
-            writes.taken += count as u64;
+            writes.taken = raised(writes.taken, count);
             writes.idle = idle_after(writes.idle, count, bytes);
             Ok(count)
         }
-        Err(_) if rose(earlier, output.failures()) => {
-            writes.failed = one_more(writes.failed);
-            Err(Unwritten::Failed)
-        }
+        Err(_) if rose(earlier, output.failures()) => Err(Unwritten::Failed),
         Err(_) => {
             writes.retried = one_more(writes.retried);
             Err(Unwritten::Uncounted)

@@ -1,7 +1,7 @@
 -- The answers of the calls that perform an action.
 use Rattle.std.proofs.Common.{◌≡◌, ℕ, Bool, List, [], Option, Some, None, Result, Ok, Err, IfErr, refl, sym, ap, subst, inl, inr}
 use Rattle.peers_devices.proofs.WritingLaws.{writes_nothing}
-use Rattle.std.specs.Prelude.{◌<◌, OnErr, length, take}
+use Rattle.std.specs.Prelude.{◌<◌, length, take}
 use Rattle.peers_devices.specs.Writing.{AreWritten, Written}
 use Rattle.table_types.specs.declared.update.Update.{Update}
 use Rattle.table_types.specs.declared.copies.CopyKind.{CopyKind}
@@ -117,17 +117,17 @@ part_falls shards stays n now x s action kind error old new is falls =
 
 -- a table refused the action, or memory ran out
 pub refused_as : (shards : ShardsState) (stays : Bool) (error : EngineError) (n now : ℕ) (x : SessionState) (s t : SeatState) (act : Action) (known : Written)
-    → IsRefusal (IsStrange shards (moment_at stays now) n x s act t) error → IsAtTable act → IsLeft n s act t → (out : List ℕ) × Fails shards stays n now x s act error out t × AreWritten known known out
-refused_as shards stays errors.Memory n now x s t act known refused at left = ([], inl (refused, at, refl, left), writes_nothing known)
-refused_as shards stays errors.Strange n now x s t act known refused at left = ([], (refused, at, refl, left), writes_nothing known)
-refused_as shards stays errors.Read n now x s t act known refused at left = absurd refused
-refused_as shards stays (errors.Write sent) n now x s t act known refused at left = absurd refused
-refused_as shards stays (errors.Session why) n now x s t act known refused at left = absurd refused
+    → IsRefusal (IsLeft n s act t) (IsStrange shards (moment_at stays now) n x s act t) error → IsAtTable act → (out : List ℕ) × Fails shards stays n now x s act error out t × AreWritten known known out
+refused_as shards stays errors.Memory n now x s t act known refused at = ([], inl (refused, at, refl), writes_nothing known)
+refused_as shards stays errors.Strange n now x s t act known refused at = ([], (refused, at, refl), writes_nothing known)
+refused_as shards stays errors.Read n now x s t act known refused at = absurd refused
+refused_as shards stays (errors.Write sent) n now x s t act known refused at = absurd refused
+refused_as shards stays (errors.Session why) n now x s t act known refused at = absurd refused
 
 pub call_refused : (shards : ShardsState) (stays : Bool) (n now : ℕ) (x : SessionState) (s t : SeatState) (action act : Action) (known : Written) (error : EngineError)
-    → action ≡ act → IsAtTable act → IsRefusal (IsStrange shards (moment_at stays now) n x s act t) error → IsLeft n s act t → OneFails shards stays n now x s t action known known error
-call_refused shards stays n now x s t action act known error is at refused left =
-    subst (λ (a : Action). OneFails shards stays n now x s t a known known error) (sym is) (refused_as shards stays error n now x s t act known refused at left)
+    → action ≡ act → IsAtTable act → IsRefusal (IsLeft n s act t) (IsStrange shards (moment_at stays now) n x s act t) error → OneFails shards stays n now x s t action known known error
+call_refused shards stays n now x s t action act known error is at refused =
+    subst (λ (a : Action). OneFails shards stays n now x s t a known known error) (sym is) (refused_as shards stays error n now x s t act known refused at)
 
 -- a lesson for whose next bytes memory ran out
 pub lesson_cut : (shards : ShardsState) (stays : Bool) (n now : ℕ) (x : SessionState) (s t : SeatState) (batch : List Update) (bytes : List ℕ) (answer : Option Event) (sent : ℕ) (old new : Written)
@@ -141,6 +141,6 @@ pub teach_fails : (shards : ShardsState) (stays : Bool) (n now : ℕ) (x : Sessi
 teach_fails shards stays n now x s t action batch old new error is fails = subst (λ (a : Action). OneFails shards stays n now x s t a old new error) (sym is) fails
 
 pub table_refuses : (shards : ShardsState) (stays : Bool) {X : Type 0} (n now : ℕ) (x : SessionState) (s t : SeatState) (action act : Action) (known : Written) (result : Result X EngineError)
-    → action ≡ act → IsAtTable act → IfErr result (IsRefusal (IsStrange shards (moment_at stays now) n x s act t)) → OnErr result (IsLeft n s act t) → IfErr result (λ error. OneFails shards stays n now x s t action known known error)
-table_refuses shards stays {X} n now x s t action act known (Ok done) is at refused left = tt
-table_refuses shards stays {X} n now x s t action act known (Err error) is at refused left = call_refused shards stays n now x s t action act known error is at refused left
+    → action ≡ act → IsAtTable act → IfErr result (IsRefusal (IsLeft n s act t) (IsStrange shards (moment_at stays now) n x s act t)) → IfErr result (λ error. OneFails shards stays n now x s t action known known error)
+table_refuses shards stays {X} n now x s t action act known (Ok done) is at refused = tt
+table_refuses shards stays {X} n now x s t action act known (Err error) is at refused = call_refused shards stays n now x s t action act known error is at refused

@@ -2,6 +2,7 @@ mod AnswerLaws
 mod CallLaws
 mod ActLaws
 mod CalmLaws
+mod CauseLaws
 mod EndLaws
 mod HaltLaws
 mod MomentLaws

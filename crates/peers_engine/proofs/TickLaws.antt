@@ -1,5 +1,5 @@
 -- A tick, from the tables that it leaves to what it asks for.
-use Rattle.std.proofs.Common.{◌≡◌, ◌<◌, ◌+◌, ℕ, List, [], ◌∷◌, length, drop, get_or, Option, refl, sym, ap, subst, inl, inr}
+use Rattle.std.proofs.Common.{◌≡◌, ◌<◌, ◌+◌, ℕ, List, [], length, drop, get_or, refl, sym, ap, subst, inl, inr}
 use Rattle.peers_devices.proofs.WritingLaws.{writes_nothing}
 use Rattle.std.proofs.lemmas.List.{drop_more}
 use Rattle.peers_devices.specs.Writing.{AreWritten, Written}
@@ -29,10 +29,10 @@ reopened_first n version s mid t tables index default within reopened rest =
 
 -- it isn't reopened in the next one
 pub not_reopened_here : (shards : ShardsState) (n : ℕ) (version : Version) (s t : SeatState) (tables : List ℕ) (index default : ℕ) (error : EngineError) → index < length tables
-    → IsRefusal (IsUnopened shards n version s (get_or tables index default) t) error → IsLeft n s (actions.Reopen (get_or tables index default)) t
+    → IsRefusal (IsLeft n s (actions.Reopen (get_or tables index default)) t) (IsUnopened shards n version s (get_or tables index default) t) error
     → FailsToReopen shards n version s (drop index tables) error t
-not_reopened_here shards n version s t tables index default error within refused left =
-    subst (λ (x : List ℕ). FailsToReopen shards n version s x error t) (sym (drop_more tables index default within)) (inl (refused, left))
+not_reopened_here shards n version s t tables index default error within refused =
+    subst (λ (x : List ℕ). FailsToReopen shards n version s x error t) (sym (drop_more tables index default within)) (inl refused)
 
 -- it is, but isn't in one of those that are left
 pub not_reopened_later : (shards : ShardsState) (n : ℕ) (version : Version) (s mid t : SeatState) (tables : List ℕ) (index default : ℕ) (error : EngineError) → index < length tables

@@ -1,5 +1,5 @@
 -- How a session's actions are performed, and what is written for them.
-use Rattle.std.specs.Prelude.{◌≡◌, ◌⊎◌, ◌<◌, ℕ, Bool, List, [], ◌∷◌, length, take, Option, Some, None, Ok, Err}
+use Rattle.std.specs.Prelude.{◌≡◌, ◌⊎◌, ◌<◌, ℕ, Bool, List, [], ◌∷◌, length, take, Option, Some, None, Ok, Err, slice_get}
 use Rattle.peers_devices.specs.Writing.{AreWritten, Written}
 use Rattle.table_types.specs.declared.update.Update.{Update}
 use Rattle.table_types.specs.declared.copies.Settled.{Settled}
@@ -18,7 +18,7 @@ use Rattle.session_core.specs.declared.action.Action.TheVariants as actions
 use Rattle.session_core.specs.declared.event.Event.{Event}
 use Rattle.session_core.specs.declared.event.Event.TheVariants as events
 use Rattle.session_core.specs.Sessions.{SessionState}
-use Rattle.peers_engine.specs.Calls.{CallsAck, CallsClose, IsCopied, IsLearned, IsReopened, IsSettled, IsUncopied, IsUnlearned, IsUnopened, IsUnsettled, IsUntaken, moment_at, opened_with}
+use Rattle.peers_engine.specs.Calls.{CallsAck, CallsClose, IsCopied, IsLearned, IsMissing, IsReopened, IsSettled, IsUncopied, IsUnlearned, IsUnopened, IsUnsettled, IsUntaken, moment_at, opened_with}
 use Rattle.peers_engine.specs.declared.errors.EngineError.{EngineError}
 use Rattle.peers_engine.specs.declared.errors.EngineError.TheVariants as errors
 
@@ -41,13 +41,14 @@ Done stays n now x s (actions.Teach batch) out answer t =
 Done stays n now x s (actions.Part kind) out answer t = (out ≡ error_text kind) × (answer ≡ None) × (t ≡ s)
 Done stays n now x s actions.Close out answer t = (out ≡ []) × (answer ≡ None) × (t ≡ s)
 
--- The error of what isn't done: `Memory`, which no clause denies, or `Strange` for the cause given.
-abbrev pub IsRefusal : Type 0 → EngineError → Type 0
-IsRefusal cause errors.Memory = Unit {0}
-IsRefusal cause errors.Strange = cause
-IsRefusal cause error = ⊥
+-- The error of what isn't done: `Memory`, which no clause denies, and the seat is as `left` says; or `Strange` for the cause given,
+-- which says how the seat is then.
+abbrev pub IsRefusal : Type 0 → Type 0 → EngineError → Type 0
+IsRefusal left cause errors.Memory = left
+IsRefusal left cause errors.Strange = cause
+IsRefusal left cause error = ⊥
 
--- Why an action of session `n`, which is `x`, is `Strange`: its table is missing or refuses it, and then leaves the seat; or the
+-- Why an action of session `n`, which is `x`, is `Strange`: its table is missing, or refuses it, which the seat counts; or the
 -- batch of a lesson isn't one for the session's tables. On a cell `c`, a row is learned and a batch copied at the moment `at c`.
 abbrev pub IsStrange : ShardsState → (CellState → ℕ) → ℕ → SessionState → SeatState → Action → SeatState → Type 0
 IsStrange shards at n x s (actions.Learn u) t = IsUnlearned shards at n s u t
@@ -57,6 +58,18 @@ IsStrange shards at n x s (actions.Copy table kind) t = IsUncopied shards at n s
 IsStrange shards at n x s (actions.Teach batch) t =
     ((IsBatchFor x.known.roster batch → ⊥) × (t ≡ s)) ⊎ IsUnsettled shards n s batch t
 IsStrange shards at n x s act t = ⊥
+
+-- What makes an action `Strange` though no table is asked: its table is missing; or the batch of a lesson isn't one for the session's
+-- tables, has no update, or is of a table that is missing.
+abbrev pub IsUnasked : ShardsState → SessionState → Action → Type 0
+IsUnasked shards x (actions.Learn u) = IsMissing shards u.table
+IsUnasked shards x (actions.Ack table number) = IsMissing shards table
+IsUnasked shards x (actions.Reopen table) = IsMissing shards table
+IsUnasked shards x (actions.Copy table kind) = IsMissing shards table
+IsUnasked shards x (actions.Teach batch) =
+    (IsBatchFor x.known.roster batch → ⊥)
+    ⊎ ((slice_get batch 0 ≡ None) ⊎ ((u : Update) × (slice_get batch 0 ≡ Some u) × IsMissing shards u.table))
+IsUnasked shards x act = ⊥
 
 -- an action that calls a table; a lesson calls it to test that its batch is the session's latest one
 abbrev pub IsAtTable : Action → Type 0
@@ -70,7 +83,7 @@ abbrev pub Falls : List ℕ → EngineError → Written → Written → Type 0
 Falls bytes (errors.Write sent) old new = (sent < length bytes) × AreWritten old new (take sent bytes)
 Falls bytes error old new = ⊥
 
--- How an action that a table refuses leaves the seat: as it was; or with the receipt of the close, if the session was
+-- How an action for which memory runs out leaves the seat: as it was; or with the receipt of the close, if the session was
 -- closed in the table and not opened anew.
 abbrev pub IsLeft : ℕ → SeatState → Action → SeatState → Type 0
 IsLeft n s (actions.Reopen table) t = (t ≡ s) ⊎ CallsClose n s table (Ok tt) t
@@ -78,7 +91,7 @@ IsLeft n s act t = t ≡ s
 
 -- a table refuses an action, or memory runs out for it, and nothing is written
 abbrev pub IsUndone : ShardsState → (CellState → ℕ) → ℕ → SessionState → SeatState → Action → EngineError → List ℕ → SeatState → Type 0
-IsUndone shards at n x s act error out t = IsRefusal (IsStrange shards at n x s act t) error × IsAtTable act × (out ≡ []) × IsLeft n s act t
+IsUndone shards at n x s act error out t = IsRefusal (IsLeft n s act t) (IsStrange shards at n x s act t) error × IsAtTable act × (out ≡ [])
 
 -- an action is done, but exactly the first `sent` of its bytes are written, and not all
 abbrev pub IsCutOff : Bool → ℕ → ℕ → SessionState → SeatState → Action → ℕ → List ℕ → SeatState → Type 0

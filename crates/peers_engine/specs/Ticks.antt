@@ -43,7 +43,7 @@ TakesTick w out e =
 abbrev pub FailsToReopen : ShardsState → ℕ → Version → SeatState → List ℕ → EngineError → SeatState → Type 0
 FailsToReopen shards n version s [] error t = ⊥
 FailsToReopen shards n version s (table ∷ tables) error t =
-    (IsRefusal (IsUnopened shards n version s table t) error × IsLeft n s (actions.Reopen table) t)
+    IsRefusal (IsLeft n s (actions.Reopen table) t) (IsUnopened shards n version s table t) error
     ⊎ ((mid : SeatState) × IsReopened n version s table mid × FailsToReopen shards n version mid tables error t)
 
 -- The session refuses the tick as it refuses a turn; or a table that it leaves isn't reopened, and nothing is written; or what

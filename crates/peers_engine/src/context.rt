@@ -19,4 +19,6 @@ pub struct Context<'a, H, G> {
     pub number: u32,
     /// The moment of the turn.
     pub moment: Moment,
+    /// The number of calls of the worker's writer that had failed when the turn began, or 0 if it has none.
+    pub failures: u64,
 }

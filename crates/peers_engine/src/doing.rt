@@ -22,7 +22,7 @@ use crate::context::Context;
 use crate::errors::EngineError;
 use crate::gate::{Gate, Stage};
 use crate::tables::{acknowledge, copy, learn, opened_with, reopen, settle};
-use crate::writing::{PiecesError, write_counted, write_pieces};
+use crate::writing::{PiecesError, write_counted, write_pieces_counted};
 use known_state::Known;
 use peers_devices::{Faults, Writes};
 use peers_msg::ErrorKind;
@@ -33,35 +33,37 @@ use table_shards::Seat;
 use table_types::{Batch, CopyKind};
 use teach_writer::Pieces;
 
-/// Writes all of the bytes.
+/// Writes all of the bytes. Gives up on a write that fails if the writer's count of failed calls is then above `earlier`.
 pub(crate) fn send<W: Write + Faults>(
     output: &mut W,
     writes: &mut Writes,
+    earlier: u64,
     bytes: &[u8],
 ) -> Result<(), EngineError>
     ensures ok { OnOk result (AreWritten (written (W.contents output.old) writes.old) (written (W.contents output.new) writes.new) bytes.now) }
     ensures failed { IfErr result (λ e. Falls bytes.now e (written (W.contents output.old) writes.old) (written (W.contents output.new) writes.new)) }
-    ensures balks { OnErr result (Balks (written (W.contents output.old) writes.old) (written (W.contents output.new) writes.new)) }
+    ensures balks { OnErr result (Balks earlier (W.failed output.new) writes.old writes.new) }
 {
-    match write_counted(output, writes, bytes) {
+    match write_counted(output, writes, earlier, bytes) {
         Ok(()) => Ok(()),
         Err(fault) => Err(EngineError::Write { sent: fault.sent }),
     }
 }
 
-/// Writes an error message.
+/// Writes an error message, as `send` writes bytes.
 pub(crate) fn part<W: Write + Faults>(
     output: &mut W,
     writes: &mut Writes,
+    earlier: u64,
     kind: ErrorKind,
 ) -> Result<(), EngineError>
     ensures ok { OnOk result (AreWritten (written (W.contents output.old) writes.old) (written (W.contents output.new) writes.new) (error_text kind)) }
     ensures failed { IfErr result (λ e. Falls (error_text kind) e (written (W.contents output.old) writes.old) (written (W.contents output.new) writes.new)) }
-    ensures balks { OnErr result (Balks (written (W.contents output.old) writes.old) (written (W.contents output.new) writes.new)) }
+    ensures balks { OnErr result (Balks earlier (W.failed output.new) writes.old writes.new) }
 {
     match kind {
-        ErrorKind::Protocol => send(output, writes, &[1, 0]),
-        ErrorKind::SizeLimit => send(output, writes, &[1, 1]),
+        ErrorKind::Protocol => send(output, writes, earlier, &[1, 0]),
+        ErrorKind::SizeLimit => send(output, writes, earlier, &[1, 1]),
     }
 }
 
@@ -75,8 +77,7 @@ pub fn copy_batch<H: Wait, G: Gate>(
 ) -> Result<Event, EngineError>
     ensures seat { seat.new.number ≡ seat.old.number }
     ensures answer { IfOk result (IsCopied stays context.now.number context.now.moment seat.old table kind seat.new) }
-    ensures refused { IfErr result (IsRefusal (IsUncopied context.now.shards.now (moment_at stays context.now.moment) context.now.number seat.old table kind seat.new)) }
-    ensures stays { OnErr result (seat.new ≡ seat.old) }
+    ensures refused { IfErr result (IsRefusal (seat.new ≡ seat.old) (IsUncopied context.now.shards.now (moment_at stays context.now.moment) context.now.number seat.old table kind seat.new)) }
 {
     let copied = copy(context, seat, table, kind, stays)?;
     if let Event::Copied(_, _) = &copied {
@@ -93,7 +94,7 @@ pub fn plan<H, G>(
     batch: &Batch,
 ) -> Result<Pieces, EngineError>
     ensures lesson { IfOk result (λ pieces. IsShortestLesson known.now batch.now (bytes_left pieces) pieces.known) }
-    ensures refused { IfErr result (IsRefusal (IsBatchFor known.now.roster batch.now → ⊥)) }
+    ensures refused { IfErr result (IsRefusal (Unit {0}) (IsBatchFor known.now.roster batch.now → ⊥)) }
     ensures strange { IfErr result (λ e. e ≡ errors.Strange → IsBatchFor known.now.roster batch.now → ⊥) }
 {
     if !batch.is_for(known.roster()) {
@@ -122,12 +123,18 @@ pub(crate) fn teach_batch<H: Wait, G: Gate, W: Write + Faults>(
         → IfErr result (λ e. (out : List ℕ) × Fails context.now.shards.now stays context.now.number context.now.moment session seat.old (actions.Teach batch.now) e out seat.new
         × AreWritten (written (W.contents output.old) writes.old) (written (W.contents output.new) writes.new) out) }
     ensures unread { IfErr result (λ e. e ≢ errors.Read) }
-    ensures balks { (sent : ℕ) → result ≡ Err (errors.Write sent) → Balks (written (W.contents output.old) writes.old) (written (W.contents output.new) writes.new) }
+    ensures balks { (sent : ℕ) → result ≡ Err (errors.Write sent) → Balks context.now.failures (W.failed output.new) writes.old writes.new }
 {
     let pieces = plan(context, known, batch)?;
     context.gate.at(context.rt, Stage::Planned);
     settle(context, seat, batch)?;
-    let after = match write_pieces(context.alloc, output, writes, pieces) {
+    let after = match write_pieces_counted(
+        context.alloc,
+        output,
+        writes,
+        context.failures,
+        pieces,
+    ) {
         Ok((_prices, after)) => after,
         Err(PiecesError::Write { sent }) => return Err(EngineError::Write { sent }),
         Err(PiecesError::Memory { sent: _ }) => return Err(EngineError::Memory),
@@ -139,10 +146,10 @@ pub(crate) fn teach_batch<H: Wait, G: Gate, W: Write + Faults>(
 /// Performs one action of a session, gives the session its answer, if it has one, and appends what the session then asks for.
 ///
 /// Fails with `Write` if not all of its bytes are written, and leaves the seat as the action does. Fails with `Memory`
-/// or `Strange` before any are if the action can't be done; the seat is then as it was, but for the receipt of the close
-/// if a table was closed and not opened anew. Fails with `Memory` in the middle of a lesson if memory runs out for its next
-/// bytes; the seat is then as the lesson leaves it. If the session refuses the answer, or memory runs out for what the
-/// answer asks for, the action was done, and the seat is as the action leaves it.
+/// or `Strange` before any are if the action can't be done; the seat is then as it was, but for the count of a table's
+/// refusal, and for the receipt of the close if a table was closed and not opened anew. Fails with `Memory` in the middle
+/// of a lesson if memory runs out for its next bytes; the seat is then as the lesson leaves it. If the session refuses the
+/// answer, or memory runs out for what the answer asks for, the action was done, and the seat is as the action leaves it.
 pub(crate) fn act<H: Wait, G: Gate, W: Write + Faults>(
     context: &Context<H, G>,
     session: &mut Session,
@@ -162,14 +169,14 @@ pub(crate) fn act<H: Wait, G: Gate, W: Write + Faults>(
         × Stops context.now.shards.now (worker session.old seat.old context.now.number context.now.moment) (action ∷ []) e answers out session.new.session seat.new
         × AreWritten (written (W.contents output.old) writes.old) (written (W.contents output.new) writes.new) out) }
     ensures unread { IfErr result (λ e. e ≢ errors.Read) }
-    ensures balks { (sent : ℕ) → result ≡ Err (errors.Write sent) → Balks (written (W.contents output.old) writes.old) (written (W.contents output.new) writes.new) }
+    ensures balks { (sent : ℕ) → result ≡ Err (errors.Write sent) → Balks context.now.failures (W.failed output.new) writes.old writes.new }
 {
     let stays = session.stays();
     match action {
-        Action::Send(bytes) => send(output, writes, bytes.as_slice()),
+        Action::Send(bytes) => send(output, writes, context.failures, bytes.as_slice()),
         Action::Learn(update) => learn(context, seat, update, stays),
         Action::Reopen(table) => reopen(context, seat, table, opened_with(session.version())),
-        Action::Part(kind) => part(output, writes, kind),
+        Action::Part(kind) => part(output, writes, context.failures, kind),
         Action::Close => Ok(()),
         Action::Ack { table, number } => {
             let answer = acknowledge(context, seat, table, number)?;

@@ -1,6 +1,8 @@
 //! Laws of the definitions, whatever the program does.
 
-ghost use Rattle.std.specs.Prelude.{ℕ, Bool, true, Err, List};
+ghost use Rattle.std.specs.Prelude.{◌≡◌, ◌⊎◌, ◌+◌, ◌%◌, ◌^◌, ℕ, Bool, true, Err, List};
+ghost use Rattle.session_core.specs.declared.action.Action.{Action};
+ghost use Rattle.session_core.specs.Sessions.{SessionState};
 ghost use Rattle.session_core.specs.StandingRuns.{Happening};
 ghost use Rattle.session_core.specs.Keeping.{KeptSession, Undergoes};
 ghost use Rattle.table_types.specs.declared.copies.CopyKind.{CopyKind};
@@ -9,9 +11,11 @@ ghost use Rattle.table_cell.specs.Histories.{CellState};
 ghost use Rattle.table_cell.specs.declared.errors.CopyError.TheVariants as copy_errors;
 ghost use Rattle.table_cell.specs.declared.errors.LearnError.TheVariants as learn_errors;
 ghost use Rattle.table_shards.specs.Receipts.{SeatState};
+ghost use Rattle.table_shards.specs.Rounds.{ShardsState};
 ghost use Rattle.table_shards.specs.declared.errors.ShardError.TheVariants as errors;
 ghost use Rattle.peers_engine.specs.Acting.{Worker};
 ghost use Rattle.peers_engine.specs.Calls.{CallsCopyOn, CallsLearnOn, moment_at};
+ghost use Rattle.peers_engine.specs.Doing.{IsStrange, IsUnasked};
 ghost use Rattle.peers_engine.specs.Ticks.{TakesTick, after_request};
 ghost use Rattle.peers_engine.specs.Turns.{Turns};
 
@@ -22,6 +26,16 @@ pub fn no_late_call_comes_too_early()
         CallsLearnOn c n (moment_at true now c) s u (Err (errors.Cell learn_errors.MomentBack)) t → ⊥ }
     ensures copy { (c : CellState) (n now : ℕ) (s t : SeatState) (table : ℕ) (kind : CopyKind) →
         CallsCopyOn c n (moment_at true now c) s table kind (Err (errors.Cell copy_errors.MomentBack)) t → ⊥ }
+{}
+
+/// If an action is `Strange`, the seat has counted one more refusal, unless no table is to be asked: the action's table is missing, or the
+/// batch of a lesson isn't one for the session's tables or has no update. So whoever asks no table, and leaves the seat as it was, ends
+/// with `Strange` only for these causes.
+pub fn what_is_strange_was_refused()
+    ensures counted { (shards : ShardsState) (at : CellState → ℕ) (n : ℕ) (x : SessionState) (s t : SeatState) (act : Action) →
+        IsStrange shards at n x s act t → IsUnasked shards x act ⊎ (t.refused ≡ (s.refused + 1) % 2 ^ 64) }
+    ensures changed { (shards : ShardsState) (at : CellState → ℕ) (n : ℕ) (x : SessionState) (s : SeatState) (act : Action) →
+        IsStrange shards at n x s act s → IsUnasked shards x act }
 {}
 
 /// All that a turn, a tick or a request does to a worker's session happens to it in order. So each law about all that happens to a

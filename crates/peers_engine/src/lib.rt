@@ -23,11 +23,13 @@ pub use doing::{copy_batch, plan};
 pub use errors::EngineError;
 pub use fused::Fused;
 pub use gate::{AlwaysOpen, Gate, Stage};
-pub use laws::{no_late_call_comes_too_early, what_a_worker_does_happens};
+pub use laws::{
+    no_late_call_comes_too_early, what_a_worker_does_happens, what_is_strange_was_refused,
+};
 pub use outcome::Outcome;
 pub use peers_devices::{Counting, Faults};
 pub use tables::{acknowledge, settle};
 pub use turned::Turned;
 pub use turning::turn;
 pub use worker::Worker;
-pub use writing::{PiecesError, WriteFault, write_lesson, write_pieces};
+pub use writing::{PiecesError, WriteFault, write_lesson, write_pieces, write_pieces_counted};

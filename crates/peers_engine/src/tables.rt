@@ -1,7 +1,7 @@
 //! The calls on tables that a session asks for. Each takes the table's lock for that call only. The seat keeps an
 //! answer that makes no event and lets the turn go on.
 
-ghost use Rattle.std.specs.Prelude.{◌≡◌, ◌⊎◌, ℕ, IfErr, IfOk, OnErr, OnOk, Ok};
+ghost use Rattle.std.specs.Prelude.{◌≡◌, ◌⊎◌, ℕ, IfErr, IfOk, OnOk, Ok};
 ghost use Rattle.peers_engine.specs.Calls.{CallsClose, CallsOpen, IsBarred, IsCopied, IsCopiedOn, IsLearned, IsLearnedOn, IsMissing, IsReopened, IsSettled, IsSoundTable, IsTaken, IsUncopied, IsUnlearned, IsUnopened, IsUnsettled, IsUntaken, RefusesClose, RefusesCopyOn, RefusesLearnOn, RefusesOpen, ack_end, close_end, copy_end, learn_end, moment_at, open_end, opened_with, settle_end};
 ghost use Rattle.peers_engine.specs.Doing.{IsRefusal};
 
@@ -23,7 +23,7 @@ fn lock<'a, H: Wait, G>(
     context: &Context<'a, H, G>,
     table: u64,
 ) -> Result<MutexGuard<'a, Locked>, EngineError>
-    ensures refused { IfErr result (IsRefusal (IsMissing context.now.shards.now table)) }
+    ensures refused { IfErr result (IsRefusal ⊥ (IsMissing context.now.shards.now table)) }
 {
     match context.shards.cell(table) {
         Some(cell) => Ok(cell.lock(context.rt)),
@@ -128,8 +128,7 @@ fn learn_at(
 ) -> Result<(), EngineError>
     ensures seat { seat.new.number ≡ seat.old.number }
     ensures learned { OnOk result (IsLearnedOn locked.old number now seat.old update seat.new) }
-    ensures refused { IfErr result (IsRefusal (RefusesLearnOn locked.old number now seat.old update seat.new)) }
-    ensures stays { OnErr result (seat.new ≡ seat.old) }
+    ensures refused { IfErr result (IsRefusal (seat.new ≡ seat.old) (RefusesLearnOn locked.old number now seat.old update seat.new)) }
 {
     note_sound(locked);
     let table = update.table;
@@ -145,8 +144,7 @@ pub(crate) fn learn<H: Wait, G>(
 ) -> Result<(), EngineError>
     ensures seat { seat.new.number ≡ seat.old.number }
     ensures learned { OnOk result (IsLearned stays context.now.number context.now.moment seat.old update seat.new) }
-    ensures refused { IfErr result (IsRefusal (IsUnlearned context.now.shards.now (moment_at stays context.now.moment) context.now.number seat.old update seat.new)) }
-    ensures stays { OnErr result (seat.new ≡ seat.old) }
+    ensures refused { IfErr result (IsRefusal (seat.new ≡ seat.old) (IsUnlearned context.now.shards.now (moment_at stays context.now.moment) context.now.number seat.old update seat.new)) }
 {
     let mut guard = lock(context, update.table)?;
     let locked: &mut Locked = &mut guard;
@@ -163,8 +161,7 @@ pub fn acknowledge<H: Wait, G>(
 ) -> Result<Event, EngineError>
     ensures seat { seat.new.number ≡ seat.old.number }
     ensures answer { IfOk result (IsTaken context.now.number seat.old table number seat.new) }
-    ensures refused { IfErr result (IsRefusal (IsUntaken context.now.shards.now context.now.number seat.old table number seat.new)) }
-    ensures stays { OnErr result (seat.new ≡ seat.old) }
+    ensures refused { IfErr result (IsRefusal (seat.new ≡ seat.old) (IsUntaken context.now.shards.now context.now.number seat.old table number seat.new)) }
 {
     let mut guard = lock(context, table)?;
     let locked: &mut Locked = &mut guard;
@@ -186,8 +183,7 @@ fn copy_at(
 ) -> Result<Event, EngineError>
     ensures seat { seat.new.number ≡ seat.old.number }
     ensures answer { IfOk result (IsCopiedOn locked.old number now seat.old table kind seat.new) }
-    ensures refused { IfErr result (IsRefusal (RefusesCopyOn locked.old number now seat.old table kind seat.new)) }
-    ensures stays { OnErr result (seat.new ≡ seat.old) }
+    ensures refused { IfErr result (IsRefusal (seat.new ≡ seat.old) (RefusesCopyOn locked.old number now seat.old table kind seat.new)) }
 {
     note_sound(locked);
     copy_end(
@@ -206,8 +202,7 @@ pub(crate) fn copy<H: Wait, G>(
 ) -> Result<Event, EngineError>
     ensures seat { seat.new.number ≡ seat.old.number }
     ensures answer { IfOk result (IsCopied stays context.now.number context.now.moment seat.old table kind seat.new) }
-    ensures refused { IfErr result (IsRefusal (IsUncopied context.now.shards.now (moment_at stays context.now.moment) context.now.number seat.old table kind seat.new)) }
-    ensures stays { OnErr result (seat.new ≡ seat.old) }
+    ensures refused { IfErr result (IsRefusal (seat.new ≡ seat.old) (IsUncopied context.now.shards.now (moment_at stays context.now.moment) context.now.number seat.old table kind seat.new)) }
 {
     let mut guard = lock(context, table)?;
     let locked: &mut Locked = &mut guard;
@@ -223,8 +218,7 @@ pub fn settle<H: Wait, G>(
 ) -> Result<(), EngineError>
     ensures seat { seat.new.number ≡ seat.old.number }
     ensures settled { OnOk result (IsSettled context.now.number seat.old batch.now seat.new) }
-    ensures refused { IfErr result (IsRefusal (IsUnsettled context.now.shards.now context.now.number seat.old batch.now seat.new)) }
-    ensures stays { OnErr result (seat.new ≡ seat.old) }
+    ensures refused { IfErr result (IsRefusal (seat.new ≡ seat.old) (IsUnsettled context.now.shards.now context.now.number seat.old batch.now seat.new)) }
 {
     let Some(first) = batch.updates().first() else {
         return Err(EngineError::Strange);
@@ -244,8 +238,7 @@ fn close<H: Wait, G>(
 ) -> Result<(), EngineError>
     ensures seat { seat.new.number ≡ seat.old.number }
     ensures closed { OnOk result (CallsClose context.now.number seat.old table (Ok tt) seat.new) }
-    ensures refused { IfErr result (IsRefusal (IsBarred context.now.shards.now table seat.old seat.new (RefusesClose context.now.number seat.old table seat.new))) }
-    ensures stays { OnErr result (seat.new ≡ seat.old) }
+    ensures refused { IfErr result (IsRefusal (seat.new ≡ seat.old) (IsBarred context.now.shards.now table seat.old seat.new (RefusesClose context.now.number seat.old table seat.new))) }
 {
     let mut guard = lock(context, table)?;
     let locked: &mut Locked = &mut guard;
@@ -269,8 +262,7 @@ fn open<H: Wait, G>(
 ) -> Result<(), EngineError>
     ensures seat { seat.new.number ≡ seat.old.number }
     ensures opened { OnOk result (CallsOpen context.now.number version seat.old table (Ok tt) seat.new) }
-    ensures refused { IfErr result (IsRefusal (IsBarred context.now.shards.now table seat.old seat.new (RefusesOpen context.now.number version seat.old table seat.new))) }
-    ensures stays { OnErr result (seat.new ≡ seat.old) }
+    ensures refused { IfErr result (IsRefusal (seat.new ≡ seat.old) (IsBarred context.now.shards.now table seat.old seat.new (RefusesOpen context.now.number version seat.old table seat.new))) }
 {
     let mut guard = lock(context, table)?;
     let locked: &mut Locked = &mut guard;
@@ -287,8 +279,7 @@ pub(crate) fn reopen<H: Wait, G>(
 ) -> Result<(), EngineError>
     ensures seat { seat.new.number ≡ seat.old.number }
     ensures reopened { OnOk result (IsReopened context.now.number version seat.old table seat.new) }
-    ensures refused { IfErr result (IsRefusal (IsUnopened context.now.shards.now context.now.number version seat.old table seat.new)) }
-    ensures left { OnErr result ((seat.new ≡ seat.old) ⊎ CallsClose context.now.number seat.old table (Ok tt) seat.new) }
+    ensures refused { IfErr result (IsRefusal ((seat.new ≡ seat.old) ⊎ CallsClose context.now.number seat.old table (Ok tt) seat.new) (IsUnopened context.now.shards.now context.now.number version seat.old table seat.new)) }
 {
     close(context, seat, table)?;
     open(context, seat, table, version)

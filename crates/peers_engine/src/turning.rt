@@ -65,7 +65,7 @@ fn do_all<H: Wait, G: Gate, W: Write + Faults>(
         × Stops context.now.shards.now (worker session.old seat.old context.now.number context.now.moment) actions.items e answers out session.new.session seat.new
         × AreWritten (written (W.contents output.old) writes.old) (written (W.contents output.new) writes.new) out) }
     ensures unread { IfErr result (λ e. e ≢ errors.Read) }
-    ensures balks { (sent : ℕ) → result ≡ Err (errors.Write sent) → Balks (written (W.contents output.old) writes.old) (written (W.contents output.new) writes.new) }
+    ensures balks { (sent : ℕ) → result ≡ Err (errors.Write sent) → Balks context.now.failures (W.failed output.new) writes.old writes.new }
 {
     let mut given = Vec::new(context.alloc);
     for action in actions {
@@ -107,7 +107,7 @@ fn react<H: Wait, G: Gate, W: Write + Faults>(
     ensures failed { IfErr result (λ e. (out : List ℕ) × Halts context.now.shards.now (worker session.old seat.old context.now.number context.now.moment) event e out session.new.session seat.new
         × AreWritten (written (W.contents output.old) writes.old) (written (W.contents output.new) writes.new) out) }
     ensures unread { IfErr result (λ e. e ≢ errors.Read) }
-    ensures balks { (sent : ℕ) → result ≡ Err (errors.Write sent) → Balks (written (W.contents output.old) writes.old) (written (W.contents output.new) writes.new) }
+    ensures balks { (sent : ℕ) → result ≡ Err (errors.Write sent) → Balks context.now.failures (W.failed output.new) writes.old writes.new }
     ensures idle { result ≡ Ok true → Idles (worker session.old seat.old context.now.number context.now.moment) event (worker session.new seat.new context.now.number context.now.moment) × AreWritten (written (W.contents output.old) writes.old) (written (W.contents output.new) writes.new) [] }
     ensures refused { (e : SessionError) → e ≢ refusals.Memory → Refuses session.old.session.phase event e
         → (result ≡ Err (errors.Session e)) × (output.new ≡ output.old) × (writes.new ≡ writes.old) }
@@ -144,7 +144,7 @@ fn receive<H: Wait, G: Gate, R: Read + Faults, W: Write + Faults>(
         × Consumes (R.remaining input.old) (R.remaining input.new) read
         × AreWritten (written (W.contents output.old) writes.old) (written (W.contents output.new) writes.new) out) }
     ensures read { result ≡ Err errors.Read → Rose (R.failed input.old) (R.failed input.new) }
-    ensures balks { (sent : ℕ) → result ≡ Err (errors.Write sent) → Balks (written (W.contents output.old) writes.old) (written (W.contents output.new) writes.new) }
+    ensures balks { (sent : ℕ) → result ≡ Err (errors.Write sent) → Balks context.now.failures (W.failed output.new) writes.old writes.new }
 {
     match read_event(context.alloc, input)? {
         Some(event) => {
@@ -178,7 +178,7 @@ fn take_turn<H: Wait, G: Gate, R: Read + Faults, W: Write + Faults>(
         × Consumes (R.remaining input.old) (R.remaining input.new) read
         × AreWritten (written (W.contents output.old) writes.old) (written (W.contents output.new) writes.new) out) }
     ensures read { result ≡ Err errors.Read → Rose (R.failed input.old) (R.failed input.new) }
-    ensures balks { (sent : ℕ) → result ≡ Err (errors.Write sent) → Balks (written (W.contents output.old) writes.old) (written (W.contents output.new) writes.new) }
+    ensures balks { (sent : ℕ) → result ≡ Err (errors.Write sent) → Balks context.now.failures (W.failed output.new) writes.old writes.new }
     ensures refused { (e : SessionError) → e ≢ refusals.Memory → Refuses session.old.session.phase (first_event (state_of session.old.session.phase)) e
         → (result ≡ Err (errors.Session e)) × (input.new ≡ input.old) × (output.new ≡ output.old) × (writes.new ≡ writes.old) }
 {
@@ -225,7 +225,7 @@ fn take_tick<H: Wait, G: Gate, W: Write + Faults>(
     ensures failed { IfErr result (λ e. (out : List ℕ) × StopsTick context.now.shards.now (worker session.old seat.old context.now.number context.now.moment) e out session.new.session seat.new
         × AreWritten (written (W.contents output.old) writes.old) (written (W.contents output.new) writes.new) out) }
     ensures unread { IfErr result (λ e. e ≢ errors.Read) }
-    ensures balks { (sent : ℕ) → result ≡ Err (errors.Write sent) → Balks (written (W.contents output.old) writes.old) (written (W.contents output.new) writes.new) }
+    ensures balks { (sent : ℕ) → result ≡ Err (errors.Write sent) → Balks context.now.failures (W.failed output.new) writes.old writes.new }
     ensures idle { result ≡ Ok true → IsTicked session.old context.now.moment [] [] session.new × (seat.new ≡ seat.old) × AreWritten (written (W.contents output.old) writes.old) (written (W.contents output.new) writes.new) [] }
     ensures refused { (e : SessionError) → e ≢ refusals.Memory → Refuses session.old.session.phase events.Turn e
         → (result ≡ Err (errors.Session e)) × (output.new ≡ output.old) × (writes.new ≡ writes.old) }
@@ -295,7 +295,7 @@ pub(crate) fn turn_and_end<H: Wait, G: Gate, R: Read + Faults, W: Write + Faults
         × Consumes (R.remaining input.old) (R.remaining input.new) read
         × AreWritten (written (W.contents output.old) writes.old) (written (W.contents output.new) writes.new) out) }
     ensures read { result ≡ Err errors.Read → Rose (R.failed input.old) (R.failed input.new) }
-    ensures balks { (sent : ℕ) → result ≡ Err (errors.Write sent) → Balks (written (W.contents output.old) writes.old) (written (W.contents output.new) writes.new) }
+    ensures balks { (sent : ℕ) → result ≡ Err (errors.Write sent) → Balks context.now.failures (W.failed output.new) writes.old writes.new }
     ensures refused { (e : SessionError) → e ≢ refusals.Memory → Refuses session.old.session.phase (first_event (state_of session.old.session.phase)) e
         → (result ≡ Err (errors.Session e)) × (input.new ≡ input.old) × (output.new ≡ output.old) × (writes.new ≡ writes.old) }
     ensures over { state_of session.old.session.phase ≡ states.Ended
@@ -327,7 +327,7 @@ pub(crate) fn tick_and_end<H: Wait, G: Gate, W: Write + Faults>(
     ensures stopped { IfErr result (λ e. (out : List ℕ) × StopsTick context.now.shards.now (worker session.old seat.old context.now.number context.now.moment) e out session.new.session seat.new
         × AreWritten (written (W.contents output.old) writes.old) (written (W.contents output.new) writes.new) out) }
     ensures unread { IfErr result (λ e. e ≢ errors.Read) }
-    ensures balks { (sent : ℕ) → result ≡ Err (errors.Write sent) → Balks (written (W.contents output.old) writes.old) (written (W.contents output.new) writes.new) }
+    ensures balks { (sent : ℕ) → result ≡ Err (errors.Write sent) → Balks context.now.failures (W.failed output.new) writes.old writes.new }
     ensures refused { (e : SessionError) → e ≢ refusals.Memory → Refuses session.old.session.phase events.Turn e
         → (result ≡ Err (errors.Session e)) × (output.new ≡ output.old) × (writes.new ≡ writes.old) }
     ensures over { state_of session.old.session.phase ≡ states.Ended
@@ -399,6 +399,7 @@ pub fn turn<H: Wait, R: Read + Faults, W: Write + Faults, G: Gate>(
         shards,
         number,
         moment: now,
+        failures: output.failures(),
     };
     let mut writes = Writes::none();
     match turn_and_end(&context, session, input, output, &mut writes, &mut seat) {

@@ -84,7 +84,7 @@ impl Worker {
             × Consumes (R.remaining input.old) (R.remaining input.new) read
             × AreWritten (written (W.contents output.old) writes.old) (written (W.contents output.new) writes.new) out) }
         ensures read { result ≡ Err errors.Read → Rose (R.failed input.old) (R.failed input.new) }
-        ensures balks { (sent : ℕ) → result ≡ Err (errors.Write sent) → Balks (written (W.contents output.old) writes.old) (written (W.contents output.new) writes.new) }
+        ensures balks { (sent : ℕ) → result ≡ Err (errors.Write sent) → Balks (W.failed output.old) (W.failed output.new) writes.old writes.new }
         ensures refused { (e : SessionError) → e ≢ refusals.Memory → Refuses self.old.session.session.phase (first_event (state_of self.old.session.session.phase)) e
             → (result ≡ Err (errors.Session e)) × (input.new ≡ input.old) × (output.new ≡ output.old) × (writes.new ≡ writes.old) }
         ensures over { state_of self.old.session.session.phase ≡ states.Ended
@@ -97,6 +97,7 @@ impl Worker {
             shards,
             number: self.number,
             moment: now,
+            failures: output.failures(),
         };
         turn_and_end(
             &context,
@@ -128,7 +129,7 @@ impl Worker {
         ensures stopped { IfErr result (λ e. (out : List ℕ) × StopsTick shards.now (worker self.old.session self.old.seat self.old.number now) e out self.new.session.session self.new.seat
             × AreWritten (written (W.contents output.old) writes.old) (written (W.contents output.new) writes.new) out) }
         ensures unread { IfErr result (λ e. e ≢ errors.Read) }
-        ensures balks { (sent : ℕ) → result ≡ Err (errors.Write sent) → Balks (written (W.contents output.old) writes.old) (written (W.contents output.new) writes.new) }
+        ensures balks { (sent : ℕ) → result ≡ Err (errors.Write sent) → Balks (W.failed output.old) (W.failed output.new) writes.old writes.new }
         ensures refused { (e : SessionError) → e ≢ refusals.Memory → Refuses self.old.session.session.phase events.Turn e
             → (result ≡ Err (errors.Session e)) × (output.new ≡ output.old) × (writes.new ≡ writes.old) }
         ensures over { state_of self.old.session.session.phase ≡ states.Ended
@@ -144,11 +145,12 @@ impl Worker {
             shards,
             number: self.number,
             moment: now,
+            failures: output.failures(),
         };
         tick_and_end(&context, &mut self.session, output, writes, &mut self.seat)
     }
 
-    /// Requests a resync if the session is open, and returns whether it did: no other session has anything to request. After
+    /// Requests a resync if the session is open, and returns whether it did. A session that isn't open requests nothing. After
     /// an error, which is a write, the session is over. Adds what its writes to `output` came to to `writes`.
     pub fn request<W: Write + Faults>(
         &mut self,
@@ -162,7 +164,7 @@ impl Worker {
         ensures ended { OnErr result (state_of self.new.session.session.phase ≡ states.Ended) }
         ensures stopped { IfErr result (λ e. Falls (control_text controls.ResyncRequest) e (written (W.contents output.old) writes.old) (written (W.contents output.new) writes.new)
             × (self.new.session.session ≡ ended self.old.session.session)) }
-        ensures balks { OnErr result (Balks (written (W.contents output.old) writes.old) (written (W.contents output.new) writes.new)) }
+        ensures balks { OnErr result (Balks (W.failed output.old) (W.failed output.new) writes.old writes.new) }
         ensures seat { self.new.seat ≡ self.old.seat }
         ensures number { self.new.number ≡ self.old.number }
         ensures manner { is_staying self.new.session.manner ≡ is_staying self.old.session.manner }
@@ -170,7 +172,8 @@ impl Worker {
         if !matches!(self.session.state(), State::Ready | State::Teaching) {
             return Ok(false);
         }
-        match send(output, writes, &RESYNC_REQUEST_BYTES) {
+        let earlier = output.failures();
+        match send(output, writes, earlier, &RESYNC_REQUEST_BYTES) {
             Ok(()) => {
                 self.session.note_sent(now);
                 Ok(true)

@@ -35,22 +35,25 @@ pub fn write_lesson<W: Write + Faults>(output: &mut W, lesson: &[u8]) -> Result<
     ensures sent { IfErr result (λ fault. Appends (W.contents output.old) (W.contents output.new) (take fault.sent lesson.now)) }
     ensures within { IfErr result (λ fault. fault.sent < length lesson.now) }
 {
+    let earlier = output.failures();
     let mut writes = Writes::none();
-    write_counted(output, &mut writes, lesson)
+    write_counted(output, &mut writes, earlier, lesson)
 }
 
-/// Writes all of the bytes as `write_lesson` does, and adds what the writes came to to `writes`.
+/// Writes all of the bytes as `write_lesson` does, and adds what the writes came to to `writes`. The device counts a failure if its
+/// count of failed calls is then above `earlier`.
 pub(crate) fn write_counted<W: Write + Faults>(
     output: &mut W,
     writes: &mut Writes,
+    earlier: u64,
     bytes: &[u8],
 ) -> Result<(), WriteFault>
     ensures ok { OnOk result (AreWritten (written (W.contents output.old) writes.old) (written (W.contents output.new) writes.new) bytes.now) }
     ensures sent { IfErr result (λ fault. AreWritten (written (W.contents output.old) writes.old) (written (W.contents output.new) writes.new) (take fault.sent bytes.now)) }
     ensures within { IfErr result (λ fault. fault.sent < length bytes.now) }
-    ensures balks { OnErr result (Balks (written (W.contents output.old) writes.old) (written (W.contents output.new) writes.new)) }
+    ensures balks { OnErr result (Balks earlier (W.failed output.new) writes.old writes.new) }
 {
-    match write_all_counted(output, writes, bytes) {
+    match write_all_counted(output, writes, earlier, bytes) {
         Ok(()) => Ok(()),
         Err(WriteError::Failed { sent } | WriteError::Stuck { sent }) => Err(WriteFault { sent }),
     }
@@ -95,6 +98,7 @@ fn gather(pieces: &mut Pieces, bytes: &mut Vec<u8>) -> Result<bool, Memory>
 fn write_next<W: Write + Faults>(
     output: &mut W,
     writes: &mut Writes,
+    earlier: u64,
     pieces: &mut Pieces,
     bytes: &mut Vec<u8>,
     sent: &mut usize,
@@ -107,7 +111,7 @@ fn write_next<W: Write + Faults>(
     ensures same { OnOk result ((pieces.new.prices ≡ pieces.old.prices) × (pieces.new.known ≡ pieces.old.known)) }
     ensures failed { IfErr result (λ error. (count : ℕ) × (sent_of error ≡ sent.old + count) × (count < length (bytes_left pieces.old))
         × AreWritten (written (W.contents output.old) writes.old) (written (W.contents output.new) writes.new) (take count (bytes_left pieces.old))) }
-    ensures balks { (count : ℕ) → result ≡ Err (errors.Write count) → Balks (written (W.contents output.old) writes.old) (written (W.contents output.new) writes.new) }
+    ensures balks { (count : ℕ) → result ≡ Err (errors.Write count) → Balks earlier (W.failed output.new) writes.old writes.new }
 {
     let before = *sent;
     let Ok(more) = gather(pieces, bytes) else {
@@ -117,7 +121,7 @@ fn write_next<W: Write + Faults>(
     let Some(after) = before.checked_add(bytes.len()) else {
         return Err(PiecesError::Memory { sent: before });
     };
-    match write_counted(output, writes, bytes.as_slice()) {
+    match write_counted(output, writes, earlier, bytes.as_slice()) {
         Ok(()) => {
             *sent = after;
             Ok(more)
@@ -131,22 +135,40 @@ fn write_next<W: Write + Faults>(
 /// Writes what is left of a lesson, and returns its prices and what the learner knows after it. The pieces are gathered in one
 /// buffer, which is written once it has 16,384 bytes or no piece is left, so the lesson never needs memory as a whole.
 ///
-/// Gives up on a write as `write_lesson` does. Adds what the writes came to to `writes`.
+/// Gives up on a write as `write_lesson` does.
 pub fn write_pieces<W: Write + Faults>(
     alloc: Global,
     output: &mut W,
+    pieces: Pieces,
+) -> Result<(Vec<u64>, Known), PiecesError>
+    ensures ok { OnOk result (Appends (W.contents output.old) (W.contents output.new) (bytes_left pieces)) }
+    ensures end { IfOk result (λ end. (end.0.items ≡ pieces.prices) × (end.1 ≡ pieces.known)) }
+    ensures sent { IfErr result (λ error. Appends (W.contents output.old) (W.contents output.new) (take (sent_of error) (bytes_left pieces))) }
+    ensures within { IfErr result (λ error. sent_of error < length (bytes_left pieces)) }
+{
+    let earlier = output.failures();
+    let mut writes = Writes::none();
+    write_pieces_counted(alloc, output, &mut writes, earlier, pieces)
+}
+
+/// Writes what is left of a lesson as `write_pieces` does, and adds what the writes came to to `writes`. The device counts a failure
+/// if its count of failed calls is then above `earlier`.
+pub fn write_pieces_counted<W: Write + Faults>(
+    alloc: Global,
+    output: &mut W,
     writes: &mut Writes,
+    earlier: u64,
     mut pieces: Pieces,
 ) -> Result<(Vec<u64>, Known), PiecesError>
     ensures ok { OnOk result (AreWritten (written (W.contents output.old) writes.old) (written (W.contents output.new) writes.new) (bytes_left pieces)) }
     ensures end { IfOk result (λ end. (end.0.items ≡ pieces.prices) × (end.1 ≡ pieces.known)) }
     ensures sent { IfErr result (λ error. AreWritten (written (W.contents output.old) writes.old) (written (W.contents output.new) writes.new) (take (sent_of error) (bytes_left pieces))) }
     ensures within { IfErr result (λ error. sent_of error < length (bytes_left pieces)) }
-    ensures balks { (count : ℕ) → result ≡ Err (errors.Write count) → Balks (written (W.contents output.old) writes.old) (written (W.contents output.new) writes.new) }
+    ensures balks { (count : ℕ) → result ≡ Err (errors.Write count) → Balks earlier (W.failed output.new) writes.old writes.new }
 {
     let mut bytes = Vec::new(alloc);
     let mut sent = 0;
-    while write_next(output, writes, &mut pieces, &mut bytes, &mut sent)? {}
+    while write_next(output, writes, earlier, &mut pieces, &mut bytes, &mut sent)? {}
     match pieces.end() {
         Ok(end) => Ok(end),
         Err(_) => unreachable!(),

@@ -23,3 +23,4 @@ pub mod MapsById
 pub mod TablesByIdAndName
 pub mod NamesInMap
 pub mod DefinedInMaps
+pub mod TablesAbove

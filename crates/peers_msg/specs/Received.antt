@@ -49,6 +49,11 @@ abbrev pub table_named : List Definition → List ℕ → Option Definition
 table_named [] name = None
 table_named (d ∷ ds) name = if is_same_name d.name name then Some d else table_named ds name
 
+-- the first of the tables, in ascending order of id, with an id above this one
+abbrev pub table_above : List Definition → ℕ → Option Definition
+table_above [] id = None
+table_above (d ∷ ds) id = if nat_lt id d.id then Some d else table_above ds id
+
 -- the selected table
 abbrev pub selected_table : Received → Option Definition
 selected_table h = option_and_then (table_at h.tables) h.selected

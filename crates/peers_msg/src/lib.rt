@@ -34,7 +34,9 @@ pub use message::{Message, Other, UpdateMsg};
 pub use name_field::NameField;
 pub use name_field_ref::NameFieldRef;
 pub use own_tables::is_own;
-pub use reading::{Frame, bytes_at, frame_at, integer_at, name_at, named_at, optional_at};
+pub use reading::{
+    Frame, bytes_at, frame_at, integer_at, name_at, named_at, optional_at, period_at,
+};
 pub use received::Received;
 pub use sizes::{define_size, named_sizes, nameless_size, size, switch_size};
 pub use unread::{Unread, front};

@@ -6,8 +6,7 @@ mod fields;
 mod messages;
 mod updates;
 
-pub use definitions::named_at;
-pub(crate) use definitions::period_at;
+pub use definitions::{named_at, period_at};
 pub use fields::{bytes_at, integer_at};
 pub(crate) use messages::message_at;
 pub use messages::{Frame, frame_at};

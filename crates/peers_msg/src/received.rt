@@ -7,7 +7,7 @@ ghost use Rattle.std.specs.Map.{values_of};
 ghost use Rattle.std.specs.Ordering.{nat_cmp};
 ghost use Rattle.table_types.specs.Rosters.{table_at};
 ghost use Rattle.peers_msg.specs.declared.message.Message.TheVariants as messages;
-ghost use Rattle.peers_msg.specs.Received.{AreDistinct, defined, nothing_received, received_after, selected_table, resumed, table_named};
+ghost use Rattle.peers_msg.specs.Received.{AreDistinct, defined, nothing_received, received_after, selected_table, resumed, table_above, table_named};
 ghost use Rattle.peers_msg.specs.ReceivedIndex.{AreIndexed, has_that_name, is_id};
 ghost use Rattle.peers_msg.specs.OwnTables.{own_part};
 
@@ -15,6 +15,7 @@ use crate::own_tables::is_own;
 use std::alloc::Global;
 use std::collections::BTreeMap;
 use std::marker::Model;
+use std::ops::Bound;
 use table_types::{Memory, Roster, TableDef};
 
 /// The definition of each id received, and the selected id: all that a decoder needs to know of earlier messages
@@ -176,6 +177,17 @@ impl Received {
         ensures { option_copied result ≡ table_at self.now.tables id }
     {
         self.tables.get(&id)
+    }
+
+    /// Returns the table with the least id above `id`. From 0 on, each call with the id that the last one found goes to the next table.
+    pub fn table_above(&self, id: u64) -> Option<&TableDef>
+        ensures { option_copied result ≡ table_above self.now.tables id }
+    {
+        let mut above = self.tables.range((Bound::Excluded(id), Bound::Unbounded));
+        match above.next() {
+            Some((_, table)) => Some(table),
+            None => None,
+        }
     }
 
     /// Returns the table with the name `name`.

@@ -8,6 +8,7 @@ mod options_error;
 mod program;
 mod run;
 mod settings;
+mod standard;
 
 pub use choice::Options;
 pub use command_line::{Refusal, options, read_words};

@@ -10,10 +10,8 @@ use crate::settings::{
     with_help_by_default, with_long, with_option, with_parser, with_value_name, with_version,
 };
 use clap::{Arg, Command};
+use node_core::VERSION;
 use std::alloc::{AllocError, Global};
-
-/// The version of the program.
-const VERSION: &str = "0.1.0";
 
 /// Makes the program without its subcommands.
 fn top<'a>(alloc: Global) -> Command<'a>

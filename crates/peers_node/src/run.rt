@@ -4,11 +4,13 @@ ghost use Rattle.std.specs.Prelude.{◌≤◌};
 use crate::choice::Options;
 use crate::command_line::{Refusal, read_words};
 use crate::options_error::OptionsError;
+use crate::standard::held;
 use node_commands::{Link, RoundSize, join, round, serve};
 use peers_devices::{Counting, Faults, write_all};
 use staying_node::run;
 use std::alloc::{AllocError, Global};
 use std::env;
+use std::fs::Files;
 use std::io::{ErrorKind, Read, Write};
 use std::net::{Net, TcpListener, TcpStream};
 use std::sync::Wait;
@@ -24,11 +26,23 @@ const NO_COMMAND_LINE: &str = "error: not a command line of this program\n";
 
 /// Runs the subcommand that the command line chooses and returns the exit status. `runner` starts its threads and opens
 /// its sockets.
-pub fn status<R: Threads + Wait + Clock + Sync + Net<Listener = TcpListener, Stream = TcpStream>>(
-    rt: &HostRuntime,
-    runner: &R,
-) -> u8 {
+pub fn status<
+    R: Threads
+        + Wait
+        + Clock
+        + Files
+        + Sync
+        + Copy
+        + Send
+        + Net<Listener = TcpListener, Stream = TcpStream>
+        + 'static,
+>(rt: &HostRuntime, runner: &R) -> u8
+where
+    R::File: Send + Sync,
+    R::Dir: Send + Sync,
+{
     let alloc = rt.alloc();
+    let _held = held(rt, alloc);
     let mut errors = Counting::new(rt.stderr());
     match arguments(rt) {
         Ok(arguments) => match texts(alloc, arguments.as_slice()) {
@@ -65,9 +79,21 @@ fn texts<'a>(alloc: Global, arguments: &'a [String]) -> Result<Vec<&'a str>, All
 #[tactic(auto, using(crate::proofs::Choices::few_threads, crate::proofs::Choices::some_rounds))]
 fn dispatched<
     'a,
-    R: Threads + Wait + Clock + Sync + Net<Listener = TcpListener, Stream = TcpStream>,
+    R: Threads
+        + Wait
+        + Clock
+        + Files
+        + Sync
+        + Copy
+        + Send
+        + Net<Listener = TcpListener, Stream = TcpStream>
+        + 'static,
     E: Write + Faults,
->(rt: &HostRuntime, runner: &R, words: &'a [&'a str], errors: &mut E) -> u8 {
+>(rt: &HostRuntime, runner: &R, words: &'a [&'a str], errors: &mut E) -> u8
+where
+    R::File: Send + Sync,
+    R::Dir: Send + Sync,
+{
     let alloc = rt.alloc();
     let mut input = Counting::new(rt.stdin());
     let mut output = Counting::new(rt.stdout());
@@ -78,7 +104,10 @@ fn dispatched<
         Ok(Options::Table) => run_table(alloc, &mut input, &mut output, errors),
         Ok(Options::World) => run_world(alloc, &mut input, &mut output, errors),
         Ok(Options::Run { checks: true }) => run_configuration_check(alloc, &mut input, errors),
-        Ok(Options::Run { checks: false }) => run_node(runner, alloc, &mut input, errors),
+        Ok(Options::Run { checks: false }) => {
+            let log = Counting::new(rt.stderr());
+            run_node(runner, alloc, &mut input, errors, log)
+        }
         Ok(
             Options::Round {
                 threads,
@@ -150,11 +179,24 @@ fn run_configuration_check<I: Read + Faults, E: Write + Faults>(
 
 #[inline(never)]
 fn run_node<
-    R: Threads + Wait + Clock + Sync + Net<Listener = TcpListener, Stream = TcpStream>,
+    R: Threads
+        + Wait
+        + Clock
+        + Files
+        + Sync
+        + Copy
+        + Send
+        + Net<Listener = TcpListener, Stream = TcpStream>
+        + 'static,
     I: Read + Faults,
     E: Write + Faults,
->(runner: &R, alloc: Global, input: &mut I, errors: &mut E) -> u8 {
-    run(runner, alloc, input, errors).status()
+    L: Write + Faults + Send + Drop + 'static,
+>(runner: &R, alloc: Global, input: &mut I, errors: &mut E, log: L) -> u8
+where
+    R::File: Send + Sync,
+    R::Dir: Send + Sync,
+{
+    run(runner, alloc, input, errors, log).status()
 }
 
 #[inline(never)]

@@ -31,16 +31,16 @@ use Rattle.session_core.specs.Sessions.{SessionState, GoesIn, GoesNew, GoesHello
 use Rattle.session_core.specs.Runs.{Runs, IsBegun, was_confirmed}
 use Rattle.session_core.proofs.EndLemmas.{no_control}
 
-or_none : (b : Bool) → b ≡ (b || false)
+pub or_none : (b : Bool) → b ≡ (b || false)
 or_none true = refl
 or_none false = refl
 
-or_group : (a b c : Bool) → ((a || b) || c) ≡ (a || (b || c))
+pub or_group : (a b c : Bool) → ((a || b) || c) ≡ (a || (b || c))
 or_group true b c = refl
 or_group false b c = refl
 
 -- the session after a step is confirmed if it was before, or if one of the actions sends resync confirmed
-abbrev IsSaid : SessionState → List Action → SessionState → Type 0
+abbrev pub IsSaid : SessionState → List Action → SessionState → Type 0
 IsSaid s acts e = e.confirmed ≡ (s.confirmed || confirms acts)
 
 -- any other actions leave it as it was
@@ -109,7 +109,7 @@ said_turns : (asked : Option ℕ) (s : SessionState) (c : Course) (acts : List A
 said_turns None s c acts e (is, ends) = unsaid s e _ acts [] is refl ends refl
 said_turns (Some table) s c acts e (is, ends) = unsaid s e _ acts _ is refl ends refl
 
-reopens_plain : (ss : List Share) → confirms (reopens ss) ≡ false
+pub reopens_plain : (ss : List Share) → confirms (reopens ss) ≡ false
 reopens_plain [] = refl
 reopens_plain (s ∷ ss) = reopens_plain ss
 
@@ -122,7 +122,7 @@ said_settles settles.All s c table acts e starts = said_starts _ s _ acts e star
 said_settles settles.Some s c table acts e (is, ends) = unsaid s e _ acts [] is refl ends refl
 said_settles settles.Older s c table acts e (is, ends) = unsaid s e _ acts [] is refl ends refl
 
-finished_plain : (b : Bool) → confirms (sends_control (finished b) ∷ []) ≡ false
+pub finished_plain : (b : Bool) → confirms (sends_control (finished b) ∷ []) ≡ false
 finished_plain true = refl
 finished_plain false = refl
 
@@ -147,7 +147,7 @@ said_open s c events.ReadFault acts e (is, ends) = unsaid s e _ acts (actions.Cl
 said_open s c events.WriteFault acts e (is, ends) = unsaid s e _ acts (actions.Close ∷ []) is refl ends refl
 said_open s c events.Opened acts e goes = absurd goes
 
-said_in : (phase : Phase) (s : SessionState) (event : Event) (acts : List Action) (e : SessionState) → GoesIn phase s event acts e → IsSaid s acts e
+pub said_in : (phase : Phase) (s : SessionState) (event : Event) (acts : List Action) (e : SessionState) → GoesIn phase s event acts e → IsSaid s acts e
 said_in (phases.New hello c) s event acts e goes = said_new s hello c event acts e goes
 said_in (phases.Hello greeter bytes c) s event acts e goes = said_hello s greeter bytes c event acts e goes
 said_in (phases.Open c) s event acts e goes = said_open s c event acts e goes
@@ -158,7 +158,7 @@ said_runs s e [] here = ap (λ (x : SessionState). x.confirmed) here ∙ or_none
 said_runs s e (step ∷ steps) (mid, goes, runs) =
     said_runs mid e steps runs ∙ (ap (λ (b : Bool). b || was_confirmed steps) (said_in s.phase s step.0 step.1 mid goes) ∙ or_group s.confirmed (confirms step.1) (was_confirmed steps))
 
-begins_unsaid : (roster : List Definition) (s : SessionState) → IsBegun roster s → s.confirmed ≡ false
+pub begins_unsaid : (roster : List Definition) (s : SessionState) → IsBegun roster s → s.confirmed ≡ false
 begins_unsaid roster s (inl (hello, up_to_date, is)) = ap (λ (x : SessionState). x.confirmed) is
 begins_unsaid roster s (inr (own, peers, up_to_date, is)) = ap (λ (x : SessionState). x.confirmed) is
 

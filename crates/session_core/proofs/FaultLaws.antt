@@ -28,7 +28,7 @@ use Rattle.session_core.specs.Sessions.{SessionState, GoesIn, GoesNew, GoesHello
 use Rattle.session_core.specs.Runs.{Runs, IsBegun}
 
 -- the session is over or has no fault
-abbrev IsFaultless : SessionState → Type 0
+abbrev pub IsFaultless : SessionState → Type 0
 IsFaultless s = (s.phase ≡ phases.Ended) ⊎ (s.fault ≡ None)
 
 -- the session after a step has no fault if it had none before
@@ -122,14 +122,14 @@ unfaulted_open s c events.ReadFault acts e (is, ends) none = keeps s e _ ends re
 unfaulted_open s c events.WriteFault acts e (is, ends) none = keeps s e _ ends refl none
 unfaulted_open s c events.Opened acts e goes none = absurd goes
 
-unfaulted_in : (phase : Phase) (s : SessionState) (event : Event) (acts : List Action) (e : SessionState) → GoesIn phase s event acts e → s.fault ≡ None → IsFaultless e
+pub unfaulted_in : (phase : Phase) (s : SessionState) (event : Event) (acts : List Action) (e : SessionState) → GoesIn phase s event acts e → s.fault ≡ None → IsFaultless e
 unfaulted_in (phases.New hello c) s event acts e goes none = unfaulted_new s hello c event acts e goes none
 unfaulted_in (phases.Hello greeter bytes c) s event acts e goes none = unfaulted_hello s greeter bytes c event acts e goes none
 unfaulted_in (phases.Open c) s event acts e goes none = unfaulted_open s c event acts e goes none
 unfaulted_in phases.Ended s event acts e goes none = absurd goes
 
 -- a session that is over makes no step
-ended_stays : (phase : Phase) (s : SessionState) (event : Event) (acts : List Action) (e : SessionState) → phase ≡ phases.Ended → GoesIn phase s event acts e → ⊥
+pub ended_stays : (phase : Phase) (s : SessionState) (event : Event) (acts : List Action) (e : SessionState) → phase ≡ phases.Ended → GoesIn phase s event acts e → ⊥
 ended_stays phases.Ended s event acts e over goes = goes
 ended_stays (phases.New hello c) s event acts e over goes = absurd (cc)
 ended_stays (phases.Hello greeter bytes c) s event acts e over goes = absurd (cc)
@@ -140,7 +140,7 @@ unfaulted_runs s e [] before here = rw here before
 unfaulted_runs s e (step ∷ steps) (inl over) (mid, goes, runs) = absurd (ended_stays s.phase s step.0 step.1 mid over goes)
 unfaulted_runs s e (step ∷ steps) (inr none) (mid, goes, runs) = unfaulted_runs mid e steps (unfaulted_in s.phase s step.0 step.1 mid goes none) runs
 
-begins_unfaulted : (roster : List Definition) (s : SessionState) → IsBegun roster s → IsFaultless s
+pub begins_unfaulted : (roster : List Definition) (s : SessionState) → IsBegun roster s → IsFaultless s
 begins_unfaulted roster s (inl (hello, up_to_date, is)) = inr (ap (λ (x : SessionState). x.fault) is)
 begins_unfaulted roster s (inr (own, peers, up_to_date, is)) = inr (ap (λ (x : SessionState). x.fault) is)
 

@@ -21,7 +21,7 @@ use Rattle.session_core.specs.Phases as phases
 use Rattle.session_core.specs.Courses.{Course, course_fed, table_to_ask}
 use Rattle.session_core.specs.Sessions.{Concludes, FinishesResync, GoesHello, GoesIn, GoesNew, GoesOpen, HasNothing, ReceivesBytes, SessionState, Settles, StartsPendingResync, Turns, accepting, connecting, opening, speaking}
 use Rattle.session_core.specs.Runs.{Runs, falls_back_in, version_in}
-use Rattle.session_core.specs.Hearing.{heard_in}
+use Rattle.session_core.specs.Hearing.{bytes_of, heard_in}
 use Rattle.session_core.proofs.GreetedHoweverCut.{meeting}
 use Rattle.session_core.proofs.GreetingInOrder.{Met, finds, greets_meets, refusal}
 use Rattle.session_core.proofs.MessagesInOrder.{or_false}
@@ -29,7 +29,7 @@ use Rattle.session_core.proofs.MessagesInOrder.{or_false}
 -- ---- once the hello is done
 
 -- the hello is done, or the session is over
-abbrev IsDecided : Phase → Type 0
+abbrev pub IsDecided : Phase → Type 0
 IsDecided (phases.New hello c) = ⊥
 IsDecided (phases.Hello greeter bytes c) = ⊥
 IsDecided (phases.Open c) = Unit {0}
@@ -85,7 +85,7 @@ stays_open s c events.ReadFault acts e (is, ends) = stays_at s e _ ends (refl, r
 stays_open s c events.WriteFault acts e (is, ends) = stays_at s e _ ends (refl, refl, tt)
 stays_open s c events.Opened acts e goes = absurd goes
 
-stays_in : (phase : Phase) (s : SessionState) (event : Event) (acts : List Action) (e : SessionState) → IsDecided phase → GoesIn phase s event acts e → Stays s e
+pub stays_in : (phase : Phase) (s : SessionState) (event : Event) (acts : List Action) (e : SessionState) → IsDecided phase → GoesIn phase s event acts e → Stays s e
 stays_in (phases.New hello c) s event acts e decided goes = absurd decided
 stays_in (phases.Hello greeter bytes c) s event acts e decided goes = absurd decided
 stays_in (phases.Open c) s event acts e decided goes = stays_open s c event acts e goes
@@ -106,43 +106,73 @@ none_heard (step ∷ steps) s e over (mid, goes, runs) = absurd (subst (λ (p : 
 -- ---- until then
 
 -- what the first bytes decide
-abbrev Decides : Greeter → Meeting → SessionState → Type 0
+abbrev pub Decides : Greeter → Meeting → SessionState → Type 0
 Decides greeter (Opens version rest) e = (e.version ≡ Some version) × (e.fell_back ≡ false)
 Decides greeter (Refuses code) e = (e.version ≡ None) × (e.fell_back ≡ refusal greeter code)
 Decides greeter Waits e = (e.version ≡ None) × (e.fell_back ≡ false)
 
 -- nothing is decided yet
-abbrev IsOpen : SessionState → Type 0
+abbrev pub IsOpen : SessionState → Type 0
 IsOpen s = (s.version ≡ None) × (s.fell_back ≡ false)
 
-open_at : (s e x : SessionState) → e ≡ x → (x.version ≡ s.version) × (x.fell_back ≡ s.fell_back) → IsOpen s → IsOpen e
+pub open_at : (s e x : SessionState) → e ≡ x → (x.version ≡ s.version) × (x.fell_back ≡ s.fell_back) → IsOpen s → IsOpen e
 open_at s e x is same undecided = (ap (λ (y : SessionState). y.version) is ∙ (same.0 ∙ undecided.0), ap (λ (y : SessionState). y.fell_back) is ∙ (same.1 ∙ undecided.1))
 
+-- What comes after: `heard` is received, and the session `mid` becomes `e`. What is decided stays so, and one that is over receives nothing.
+abbrev pub After : SessionState → List ℕ → SessionState → Type 0
+After mid heard e = (IsDecided mid.phase → (e.version ≡ mid.version) × (e.fell_back ≡ mid.fell_back)) × (mid.phase ≡ phases.Ended → heard ≡ [])
+
+after_run : (steps : List (Event × List Action)) (mid e : SessionState) → Runs mid steps e → After mid (heard_in steps) e
+after_run steps mid e runs = ((λ decided. stays_run steps mid e decided runs), (λ over. none_heard steps mid e over runs))
+
 -- a session that ends undecided
-cut_off : (greeter : Greeter) (bytes : List ℕ) (steps : List (Event × List Action)) (mid e : SessionState) → meeting greeter bytes ≡ Waits → mid.phase ≡ phases.Ended → IsOpen mid → Runs mid steps e
-    → Decides greeter (meeting greeter (bytes ++ heard_in steps)) e
-cut_off greeter bytes steps mid e waits over undecided runs =
-    let all : bytes ++ heard_in steps ≡ bytes = ap (λ (more : List ℕ). bytes ++ more) (none_heard steps mid e over runs) ∙ append-nil bytes in
-    let same = stays_run steps mid e (subst IsDecided (sym over) tt) runs in
+pub cut_off : (greeter : Greeter) (bytes heard : List ℕ) (mid e : SessionState) → meeting greeter bytes ≡ Waits → mid.phase ≡ phases.Ended → IsOpen mid → After mid heard e
+    → Decides greeter (meeting greeter (bytes ++ heard)) e
+cut_off greeter bytes heard mid e waits over undecided after =
+    let all : bytes ++ heard ≡ bytes = ap (λ (more : List ℕ). bytes ++ more) (after.1 over) ∙ append-nil bytes in
+    let same = after.0 (subst IsDecided (sym over) tt) in
     subst (λ (m : Meeting). Decides greeter m e) (sym (ap (meeting greeter) all ∙ waits)) (same.0 ∙ undecided.0, same.1 ∙ undecided.1)
 
 -- bytes of a hello or a status, and what follows
-decides_first : (greeter : Greeter) (bytes : List ℕ) (c : Course) (steps : List (Event × List Action)) (s mid e : SessionState) (acts : List Action) (m : Meeting)
-    → meeting greeter bytes ≡ m → IsOpen s → Met m s greeter bytes c acts mid → Runs mid steps e
-    → (meeting greeter bytes ≡ Waits → mid.phase ≡ phases.Hello greeter bytes c → IsOpen mid → Decides greeter (meeting greeter (bytes ++ heard_in steps)) e)
-    → Decides greeter (meeting greeter (bytes ++ heard_in steps)) e
-decides_first greeter bytes c steps s mid e acts (Opens version rest) is undecided (first, silent, sends, receives) runs later =
+decides_first : (greeter : Greeter) (bytes heard : List ℕ) (c : Course) (s mid e : SessionState) (acts : List Action) (m : Meeting)
+    → meeting greeter bytes ≡ m → IsOpen s → Met m s greeter bytes c acts mid → After mid heard e
+    → (meeting greeter bytes ≡ Waits → mid.phase ≡ phases.Hello greeter bytes c → IsOpen mid → Decides greeter (meeting greeter (bytes ++ heard)) e)
+    → Decides greeter (meeting greeter (bytes ++ heard)) e
+decides_first greeter bytes heard c s mid e acts (Opens version rest) is undecided (first, silent, sends, receives) after later =
     let one = stays_received (speaking version s) (course_fed c rest) (first ∷ opening version c.shares) acts mid receives in
-    let same = stays_run steps mid e one.2 runs in
-    subst (λ (m : Meeting). Decides greeter m e) (sym (finds greeter bytes (heard_in steps) (Opens version rest) is)) (same.0 ∙ one.0, same.1 ∙ (one.1 ∙ undecided.1))
-decides_first greeter bytes c steps s mid e acts (Refuses code) is undecided (tells, quiet, ends) runs later =
-    let same = stays_run steps mid e (subst IsDecided (sym (ap (λ (x : SessionState). x.phase) ends)) tt) runs in
+    let same = after.0 one.2 in
+    subst (λ (m : Meeting). Decides greeter m e) (sym (finds greeter bytes heard (Opens version rest) is)) (same.0 ∙ one.0, same.1 ∙ (one.1 ∙ undecided.1))
+decides_first greeter bytes heard c s mid e acts (Refuses code) is undecided (tells, quiet, ends) after later =
+    let same = after.0 (subst IsDecided (sym (ap (λ (x : SessionState). x.phase) ends)) tt) in
     let falls : mid.fell_back ≡ refusal greeter code =
     ap (λ (x : SessionState). x.fell_back) ends ∙ (ap (λ (b : Bool). refusal greeter code || b) undecided.1 ∙ or_false (refusal greeter code)) in
-    subst (λ (m : Meeting). Decides greeter m e) (sym (finds greeter bytes (heard_in steps) (Refuses code) is))
+    subst (λ (m : Meeting). Decides greeter m e) (sym (finds greeter bytes heard (Refuses code) is))
     (same.0 ∙ (ap (λ (x : SessionState). x.version) ends ∙ undecided.0), same.1 ∙ falls)
-decides_first greeter bytes c steps s mid e acts Waits is undecided (nothing, stays) runs later =
+decides_first greeter bytes heard c s mid e acts Waits is undecided (nothing, stays) after later =
     later is (ap (λ (x : SessionState). x.phase) stays) (open_at s mid _ stays (refl, refl) undecided)
+
+-- a step in Hello, and what follows
+pub decides_in_hello : (greeter : Greeter) (bytes heard : List ℕ) (c : Course) (s mid e : SessionState) (event : Event) (acts : List Action)
+    → meeting greeter bytes ≡ Waits → IsOpen s → GoesHello s greeter bytes c event acts mid → After mid heard e
+    → ((more : List ℕ) → mid.phase ≡ phases.Hello greeter more c → meeting greeter more ≡ Waits → IsOpen mid → Decides greeter (meeting greeter (more ++ heard)) e)
+    → Decides greeter (meeting greeter (bytes ++ (bytes_of event ++ heard))) e
+decides_in_hello greeter bytes heard c s mid e (events.Bytes piece) acts waits undecided here after again =
+    subst (λ (b : List ℕ). Decides greeter (meeting greeter b) e) (append_assoc bytes piece heard)
+    (decides_first greeter (bytes ++ piece) heard c s mid e acts (meeting greeter (bytes ++ piece)) refl undecided (greets_meets greeter s (bytes ++ piece) c acts mid here) after
+    (λ waits_so stands_so so. again (bytes ++ piece) stands_so waits_so so))
+decides_in_hello greeter bytes heard c s mid e events.Turn acts waits undecided (is, ends) after again = again bytes (ap (λ (x : SessionState). x.phase) ends) waits (open_at s mid _ ends (refl, refl) undecided)
+decides_in_hello greeter bytes heard c s mid e events.End acts waits undecided (is, ends) after again =
+    cut_off greeter bytes heard mid e waits (ap (λ (x : SessionState). x.phase) ends) (open_at s mid _ ends (refl, refl) undecided) after
+decides_in_hello greeter bytes heard c s mid e events.ReadFault acts waits undecided (is, ends) after again =
+    cut_off greeter bytes heard mid e waits (ap (λ (x : SessionState). x.phase) ends) (open_at s mid _ ends (refl, refl) undecided) after
+decides_in_hello greeter bytes heard c s mid e events.WriteFault acts waits undecided (is, ends) after again =
+    cut_off greeter bytes heard mid e waits (ap (λ (x : SessionState). x.phase) ends) (open_at s mid _ ends (refl, refl) undecided) after
+decides_in_hello greeter bytes heard c s mid e events.Opened acts waits undecided here after again = absurd here
+decides_in_hello greeter bytes heard c s mid e (events.Copied table batch) acts waits undecided here after again = absurd here
+decides_in_hello greeter bytes heard c s mid e (events.Nothing table) acts waits undecided here after again = absurd here
+decides_in_hello greeter bytes heard c s mid e (events.Written known) acts waits undecided here after again = absurd here
+decides_in_hello greeter bytes heard c s mid e (events.Settled table settled) acts waits undecided here after again = absurd here
+decides_in_hello greeter bytes heard c s mid e (events.Refused table) acts waits undecided here after again = absurd here
 
 -- a session in Hello
 decides : (steps : List (Event × List Action)) (s e : SessionState) (greeter : Greeter) (bytes : List ℕ) (c : Course)
@@ -150,53 +180,48 @@ decides : (steps : List (Event × List Action)) (s e : SessionState) (greeter : 
 decides [] s e greeter bytes c stands waits undecided here =
     subst (λ (m : Meeting). Decides greeter m e) (sym (ap (meeting greeter) (append-nil bytes) ∙ waits)) (open_at s e s here (refl, refl) undecided)
 decides ((event, acts) ∷ steps) s e greeter bytes c stands waits undecided (mid, goes, runs) =
-    by (λ more stands_so waits_so so. decides steps mid e greeter more c stands_so waits_so so runs) event (subst (λ (p : Phase). GoesIn p s event acts mid) stands goes)
-  where
-    by : ((more : List ℕ) → mid.phase ≡ phases.Hello greeter more c → meeting greeter more ≡ Waits → IsOpen mid → Decides greeter (meeting greeter (more ++ heard_in steps)) e) → (event : Event) → GoesHello s greeter bytes c event acts mid → Decides greeter (meeting greeter (bytes ++ heard_in ((event, acts) ∷ steps))) e
-    by again (events.Bytes piece) here =
-        subst (λ (b : List ℕ). Decides greeter (meeting greeter b) e) (append_assoc bytes piece (heard_in steps))
-        (decides_first greeter (bytes ++ piece) c steps s mid e acts (meeting greeter (bytes ++ piece)) refl undecided (greets_meets greeter s (bytes ++ piece) c acts mid here) runs
-        (λ waits_so stands_so so. again (bytes ++ piece) stands_so waits_so so))
-    by again events.Turn (is, ends) = again bytes (ap (λ (x : SessionState). x.phase) ends) waits (open_at s mid _ ends (refl, refl) undecided)
-    by again events.End (is, ends) = cut_off greeter bytes steps mid e waits (ap (λ (x : SessionState). x.phase) ends) (open_at s mid _ ends (refl, refl) undecided) runs
-    by again events.ReadFault (is, ends) = cut_off greeter bytes steps mid e waits (ap (λ (x : SessionState). x.phase) ends) (open_at s mid _ ends (refl, refl) undecided) runs
-    by again events.WriteFault (is, ends) = cut_off greeter bytes steps mid e waits (ap (λ (x : SessionState). x.phase) ends) (open_at s mid _ ends (refl, refl) undecided) runs
-    by again events.Opened here = absurd here
-    by again (events.Copied table batch) here = absurd here
-    by again (events.Nothing table) here = absurd here
-    by again (events.Written known) here = absurd here
-    by again (events.Settled table settled) here = absurd here
-    by again (events.Refused table) here = absurd here
+    decides_in_hello greeter bytes (heard_in steps) c s mid e event acts waits undecided (subst (λ (p : Phase). GoesIn p s event acts mid) stands goes) (after_run steps mid e runs)
+    (λ more stands_so waits_so so. decides steps mid e greeter more c stands_so waits_so so runs)
+
+-- a step in New, and what follows
+pub decides_in_new : (hello : Hello) (heard : List ℕ) (c : Course) (s mid e : SessionState) (event : Event) (acts : List Action)
+    → IsOpen s → GoesNew s hello c event acts mid → After mid heard e
+    → (mid.phase ≡ phases.Hello (greeters.Connects hello.version) [] c → IsOpen mid → Decides (greeters.Connects hello.version) (meeting (greeters.Connects hello.version) heard) e)
+    → (mid.phase ≡ phases.New hello c → IsOpen mid → Decides (greeters.Connects hello.version) (meeting (greeters.Connects hello.version) heard) e)
+    → Decides (greeters.Connects hello.version) (meeting (greeters.Connects hello.version) (bytes_of event ++ heard)) e
+decides_in_new hello heard c s mid e events.Opened acts undecided (is, ends) after opened again = opened (ap (λ (x : SessionState). x.phase) ends) (open_at s mid _ ends (refl, refl) undecided)
+decides_in_new hello heard c s mid e events.Turn acts undecided (is, ends) after opened again = again (ap (λ (x : SessionState). x.phase) ends) (open_at s mid _ ends (refl, refl) undecided)
+decides_in_new hello heard c s mid e events.End acts undecided (is, ends) after opened again =
+    cut_off (greeters.Connects hello.version) [] heard mid e refl (ap (λ (x : SessionState). x.phase) ends) (open_at s mid _ ends (refl, refl) undecided) after
+decides_in_new hello heard c s mid e events.ReadFault acts undecided (is, ends) after opened again =
+    cut_off (greeters.Connects hello.version) [] heard mid e refl (ap (λ (x : SessionState). x.phase) ends) (open_at s mid _ ends (refl, refl) undecided) after
+decides_in_new hello heard c s mid e events.WriteFault acts undecided (is, ends) after opened again =
+    cut_off (greeters.Connects hello.version) [] heard mid e refl (ap (λ (x : SessionState). x.phase) ends) (open_at s mid _ ends (refl, refl) undecided) after
+decides_in_new hello heard c s mid e (events.Bytes bytes) acts undecided here after opened again = absurd here
+decides_in_new hello heard c s mid e (events.Copied table batch) acts undecided here after opened again = absurd here
+decides_in_new hello heard c s mid e (events.Nothing table) acts undecided here after opened again = absurd here
+decides_in_new hello heard c s mid e (events.Written known) acts undecided here after opened again = absurd here
+decides_in_new hello heard c s mid e (events.Settled table settled) acts undecided here after opened again = absurd here
+decides_in_new hello heard c s mid e (events.Refused table) acts undecided here after opened again = absurd here
 
 -- a session in New
 decides_new : (steps : List (Event × List Action)) (s e : SessionState) (hello : Hello) (c : Course)
     → s.phase ≡ phases.New hello c → IsOpen s → Runs s steps e → Decides (greeters.Connects hello.version) (meeting (greeters.Connects hello.version) (heard_in steps)) e
 decides_new [] s e hello c stands undecided here = open_at s e s here (refl, refl) undecided
 decides_new ((event, acts) ∷ steps) s e hello c stands undecided (mid, goes, runs) =
-    by (λ stands_so so. decides_new steps mid e hello c stands_so so runs) event (subst (λ (p : Phase). GoesIn p s event acts mid) stands goes)
-  where
-    by : (mid.phase ≡ phases.New hello c → IsOpen mid → Decides (greeters.Connects hello.version) (meeting (greeters.Connects hello.version) (heard_in steps)) e) → (event : Event) → GoesNew s hello c event acts mid → Decides (greeters.Connects hello.version) (meeting (greeters.Connects hello.version) (heard_in ((event, acts) ∷ steps))) e
-    by again events.Opened (is, ends) = decides steps mid e (greeters.Connects hello.version) [] c (ap (λ (x : SessionState). x.phase) ends) refl (open_at s mid _ ends (refl, refl) undecided) runs
-    by again events.Turn (is, ends) = again (ap (λ (x : SessionState). x.phase) ends) (open_at s mid _ ends (refl, refl) undecided)
-    by again events.End (is, ends) = cut_off (greeters.Connects hello.version) [] steps mid e refl (ap (λ (x : SessionState). x.phase) ends) (open_at s mid _ ends (refl, refl) undecided) runs
-    by again events.ReadFault (is, ends) = cut_off (greeters.Connects hello.version) [] steps mid e refl (ap (λ (x : SessionState). x.phase) ends) (open_at s mid _ ends (refl, refl) undecided) runs
-    by again events.WriteFault (is, ends) = cut_off (greeters.Connects hello.version) [] steps mid e refl (ap (λ (x : SessionState). x.phase) ends) (open_at s mid _ ends (refl, refl) undecided) runs
-    by again (events.Bytes bytes) here = absurd here
-    by again (events.Copied table batch) here = absurd here
-    by again (events.Nothing table) here = absurd here
-    by again (events.Written known) here = absurd here
-    by again (events.Settled table settled) here = absurd here
-    by again (events.Refused table) here = absurd here
+    decides_in_new hello (heard_in steps) c s mid e event acts undecided (subst (λ (p : Phase). GoesIn p s event acts mid) stands goes) (after_run steps mid e runs)
+    (λ stands_so so. decides steps mid e (greeters.Connects hello.version) [] c stands_so refl so runs)
+    (λ stands_so so. decides_new steps mid e hello c stands_so so runs)
 
 -- ---- the law
 
-connected_so : (version : Version) (m : Meeting) (e : SessionState) → Decides (greeters.Connects version) m e → (e.version ≡ version_in m) × (e.fell_back ≡ falls_back_in version m)
+pub connected_so : (version : Version) (m : Meeting) (e : SessionState) → Decides (greeters.Connects version) m e → (e.version ≡ version_in m) × (e.fell_back ≡ falls_back_in version m)
 connected_so version (Opens other rest) e decided = decided
 connected_so version (Refuses (Some code)) e decided = decided
 connected_so version (Refuses None) e decided = decided
 connected_so version Waits e decided = decided
 
-accepted_so : (own : List ℕ) (peers : List (List ℕ)) (m : Meeting) (e : SessionState) → Decides (greeters.Accepts own peers) m e → (e.version ≡ version_in m) × (e.fell_back ≡ false)
+pub accepted_so : (own : List ℕ) (peers : List (List ℕ)) (m : Meeting) (e : SessionState) → Decides (greeters.Accepts own peers) m e → (e.version ≡ version_in m) × (e.fell_back ≡ false)
 accepted_so own peers (Opens other rest) e decided = decided
 accepted_so own peers (Refuses code) e decided = decided
 accepted_so own peers Waits e decided = decided

@@ -42,3 +42,5 @@ mod GreetedHoweverCut
 mod GreetingInOrder
 mod HelloDecides
 mod LessonDue
+mod StandingMoves
+mod StandingGreetings

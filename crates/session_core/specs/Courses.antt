@@ -13,7 +13,7 @@ use Rattle.learner.specs.declared.taken.Taken.{Taken}
 use Rattle.learner.specs.declared.taken.Taken.TheVariants as taken
 use Rattle.learner.specs.Intake.{Taking, begun, fed, due_acks}
 use Rattle.tolerant_intake.specs.Tolerance.{Tolerance, nothing_passed}
-use Rattle.tolerant_intake.specs.Reading.{Reads}
+use Rattle.tolerant_intake.specs.Reading.{Reading, Reads}
 use Rattle.session_core.specs.declared.share.Share.{Share}
 use Rattle.session_core.specs.declared.action.Action.{Action}
 use Rattle.session_core.specs.declared.action.Action.TheVariants as actions
@@ -41,6 +41,10 @@ pub record Course : Type 0 where
   pub teaching : Bool
   pub waits : Bool
   pub due : List Due
+
+-- what reads the remote peer's messages
+abbrev pub reading_of : Course → Reading
+reading_of c = record { intake = c.intake; tolerance = c.tolerance }
 
 -- before any message
 abbrev pub course_begun : List Definition → Bool → Course

@@ -67,6 +67,11 @@ phase_of (stages.Hello greeter bytes) c = phases.Hello greeter bytes.items c
 phase_of stages.Open c = phases.Open c
 phase_of stages.Ended c = phases.Ended
 
+-- the course of an open session
+abbrev pub open_course : Phase → Option Course
+open_course (phases.Open c) = Some c
+open_course phase = None
+
 -- the hello or the status is incomplete
 abbrev pub is_hello : Stage → Bool
 is_hello (stages.Hello greeter bytes) = true

@@ -182,9 +182,9 @@ abbrev pub heartbeats : Bool → List Action
 heartbeats true = sends_control controls.Heartbeat ∷ []
 heartbeats false = []
 
--- At a tick, a session that has received nothing for too long closes. Any other open session leaves the tables `left` first,
--- in which it is to be closed and opened anew, forgets the names if there are any, and then asks for the actions `acts`: the end of a resync, if only these tables
--- held it up, and a heartbeat, if it has sent nothing for too long.
+-- At a tick, a session that has received nothing for too long closes. Any other open session leaves the tables `left` first, in which it
+-- is to be closed and opened anew, forgets all names if it leaves a table, and then asks for the actions `acts`: the end of a resync, if
+-- only these tables held it up, and a heartbeat, if it has sent nothing for too long.
 abbrev pub TicksIn : Bool → Phase → StandingState → ℕ → List ℕ → List Action → StandingState → Type 0
 TicksIn true phase s now left acts e =
     (left ≡ []) × (acts ≡ actions.Close ∷ []) × (e.session ≡ ended s.session) × (e.pace ≡ s.pace)

@@ -20,8 +20,8 @@ ghost use Rattle.session_core.specs.HeardCounts.{CountsEvent};
 ghost use Rattle.session_core.specs.Courses.{Course};
 ghost use Rattle.session_core.specs.Cutting.{AreFed, IsFedOut, without_acks};
 ghost use Rattle.session_core.specs.Hearing.{Hears, asked_in, heard_in, told};
-ghost use Rattle.session_core.specs.Standing.{is_open, is_reopen};
-ghost use Rattle.session_core.specs.StandingRuns.{Happening, Lasts, handed};
+ghost use Rattle.session_core.specs.Standing.{StandingState, is_open, is_reopen, stays_from};
+ghost use Rattle.session_core.specs.StandingRuns.{BeginsToStay, Happening, Lasts, handed};
 ghost use Rattle.session_core.specs.Paces.{Pace};
 ghost use Rattle.session_core.specs.Manners as manners;
 ghost use Rattle.session_core.specs.Keeping.{IsNoCatchUp, KeptSession, Undergoes, standing};
@@ -59,6 +59,7 @@ pub fn unasked_is_no_step()
 /// The hello decides once and for all which version a session speaks, and whether it falls back. In every run from the beginning, the
 /// version is that of the hello, once the bytes received complete it, or the status that answers it, and it isn't refused; and
 /// `None` before, and if it is refused. A session falls back exactly if its own hello said version 2.1 and they complete status 502.
+/// So it is of a session that stays.
 pub fn the_hello_decides()
     ensures connects { (hello : Hello) (roster : List Definition) (up_to_date : Bool) (s : SessionState) (steps : List (Event × List Action)) →
         Runs (connecting hello roster up_to_date) steps s →
@@ -67,18 +68,29 @@ pub fn the_hello_decides()
     ensures accepts { (own : List ℕ) (peers : List (List ℕ)) (roster : List Definition) (up_to_date : Bool) (s : SessionState) (steps : List (Event × List Action)) →
         Runs (accepting own peers roster up_to_date) steps s →
         (s.version ≡ version_in (by_answer (answer_of own peers (heard_in steps)) (heard_in steps))) × (s.fell_back ≡ false) }
+    ensures connects_staying { (hello : Hello) (roster : List Definition) (up_to_date : Bool) (now : ℕ) (s : StandingState) (steps : List Happening) →
+        Lasts (stays_from now (connecting hello roster up_to_date)) steps s →
+        (s.session.version ≡ version_in (by_status hello.version (status_of (heard_in (handed steps))) (heard_in (handed steps))))
+        × (s.session.fell_back ≡ falls_back_in hello.version (by_status hello.version (status_of (heard_in (handed steps))) (heard_in (handed steps)))) }
+    ensures accepts_staying { (own : List ℕ) (peers : List (List ℕ)) (roster : List Definition) (up_to_date : Bool) (now : ℕ) (s : StandingState) (steps : List Happening) →
+        Lasts (stays_from now (accepting own peers roster up_to_date)) steps s →
+        (s.session.version ≡ version_in (by_answer (answer_of own peers (heard_in (handed steps))) (heard_in (handed steps)))) × (s.session.fell_back ≡ false) }
 {}
 
-/// A session says that it confirmed a resync exactly if it asked to send resync confirmed somewhere in its run.
+/// A session says that it confirmed a resync exactly if it asked to send resync confirmed somewhere in its run; so does one that stays.
 pub fn confirmed_is_sent()
-    ensures { (roster : List Definition) (begun s : SessionState) (steps : List (Event × List Action)) →
+    ensures plain { (roster : List Definition) (begun s : SessionState) (steps : List (Event × List Action)) →
         IsBegun roster begun → Runs begun steps s → s.confirmed ≡ was_confirmed steps }
+    ensures staying { (roster : List Definition) (begun s : StandingState) (steps : List Happening) →
+        BeginsToStay roster begun → Lasts begun steps s → s.session.confirmed ≡ was_confirmed (handed steps) }
 {}
 
-/// In every run from the beginning, a session that has a fault is over.
+/// In every run from the beginning, a session that has a fault is over, also one that stays.
 pub fn a_fault_ends_the_session()
-    ensures { (roster : List Definition) (begun s : SessionState) (steps : List (Event × List Action)) →
+    ensures plain { (roster : List Definition) (begun s : SessionState) (steps : List (Event × List Action)) →
         IsBegun roster begun → Runs begun steps s → (s.phase ≡ phases.Ended) ⊎ (s.fault ≡ None) }
+    ensures staying { (roster : List Definition) (begun s : StandingState) (steps : List Happening) →
+        BeginsToStay roster begun → Lasts begun steps s → (s.session.phase ≡ phases.Ended) ⊎ (s.session.fault ≡ None) }
 {}
 
 /// A step is unique: the event and the session before it determine the actions and the session after it.

@@ -1,6 +1,6 @@
 //! The steps of a session.
 
-ghost use Rattle.std.specs.Prelude.{◌≡◌, ◌≢◌, ◌∷◌, [], true, Err, IfOk, IfErr, OnOk, OnErr};
+ghost use Rattle.std.specs.Prelude.{◌≡◌, ◌≢◌, ◌∷◌, [], true, Err, IfOk, IfErr, OnOk, OnErr, option_copied, option_map};
 ghost use Rattle.session_core.specs.declared.action.Action.TheVariants as actions;
 ghost use Rattle.session_core.specs.declared.error.SessionError.{SessionError};
 ghost use Rattle.session_core.specs.declared.error.SessionError.TheVariants as errors;
@@ -10,8 +10,8 @@ ghost use Rattle.session_core.specs.declared.phase.Greeter.TheVariants as greete
 ghost use Rattle.session_core.specs.Phases as phases;
 ghost use Rattle.session_core.specs.declared.phase.Stage.TheVariants as stages;
 ghost use Rattle.session_core.specs.HeardCounts.{CountsEvent, CountsBytes};
-ghost use Rattle.session_core.specs.Courses.{course_fed, none_due, acks_sent, acks_given};
-ghost use Rattle.session_core.specs.Sessions.{Goes, GoesOpen, Keeps, Concludes, Refuses, IsWhy, ended, is_asked, is_asked_open, is_hello, phase_of, seen, going, kind_of_fault, state_of};
+ghost use Rattle.session_core.specs.Courses.{course_fed, none_due, acks_sent, acks_given, reading_of};
+ghost use Rattle.session_core.specs.Sessions.{Goes, GoesOpen, Keeps, Concludes, Refuses, IsWhy, ended, is_asked, is_asked_open, is_hello, open_course, phase_of, seen, going, kind_of_fault, state_of};
 
 use crate::action::{Action, confirms, only, push};
 use crate::course::Course;
@@ -29,6 +29,7 @@ use learner::Fault;
 use peers_msg::{Breach, ErrorKind};
 use std::alloc::Global;
 use table_types::{Memory, Version};
+use tolerant_intake::Reader;
 
 /// A session as its steps change it. The course stays in place through all stages.
 #[derive(Drop)]
@@ -71,6 +72,16 @@ impl Machine {
             Stage::Hello(_, _) => State::Hello,
             Stage::Open => self.course.state(),
             Stage::Ended => State::Ended,
+        }
+    }
+
+    /// Returns what reads the remote peer's messages, while the session is open.
+    pub(crate) fn reader(&self) -> Option<&Reader>
+        ensures { option_copied result ≡ option_map reading_of (open_course (phase_of self.now.stage self.now.course)) }
+    {
+        match &self.stage {
+            Stage::Open => Some(&self.course.reader),
+            Stage::New(_) | Stage::Hello(_, _) | Stage::Ended => None,
         }
     }
 

@@ -1,11 +1,12 @@
 //! Sessions.
 
-ghost use Rattle.std.specs.Prelude.{◌≡◌, ◌≢◌, Err, IfOk, IfErr, OnErr};
+ghost use Rattle.std.specs.Prelude.{◌≡◌, ◌≢◌, Err, IfOk, IfErr, OnErr, option_copied, option_map};
 ghost use Rattle.session_core.specs.declared.error.SessionError.{SessionError};
 ghost use Rattle.session_core.specs.declared.error.SessionError.TheVariants as errors;
 ghost use Rattle.session_core.specs.declared.event.Event.TheVariants as events;
+ghost use Rattle.session_core.specs.Courses.{reading_of};
 ghost use Rattle.session_core.specs.Keeping.{IsTicked, Steps, catching_up, is_any_ahead, is_staying, kept_from, noting_sent, plain};
-ghost use Rattle.session_core.specs.Sessions.{Refuses, connecting, accepting, ended, state_of};
+ghost use Rattle.session_core.specs.Sessions.{Refuses, connecting, accepting, ended, open_course, state_of};
 
 use crate::action::Action;
 use crate::controls::Controls;
@@ -27,7 +28,7 @@ use peers_hello::Hello;
 use std::alloc::Global;
 use std::marker::Model;
 use table_types::{Items, Memory, Moment, Name, Roster, Version};
-use tolerant_intake::PassedOver;
+use tolerant_intake::{PassedOver, Reader};
 
 /// A session between this node and another peer (HAProxy, doc/peers-v2.0.txt). It does no I/O itself: at each event it
 /// returns the actions that its caller performs, in order.
@@ -219,14 +220,22 @@ impl Session {
         self.machine.heard.controls
     }
 
-    /// Returns how often something that the remote peer sent was passed over, for each cause, which only a session that stays does.
+    /// Returns how often something that the remote peer sent was passed over, for each cause. Only a session that stays passes anything
+    /// over.
     pub fn passed_over(&self) -> PassedOver
         ensures { result ≡ self.now.heard.passed_over }
     {
         self.machine.heard.passed_over
     }
 
-    /// Returns how much the session asked for since it stays; of one that doesn't stay nothing is counted. No contract says what is.
+    /// Returns what reads the remote peer's messages, and so what that peer has defined, while the session is open.
+    pub fn reader(&self) -> Option<&Reader>
+        ensures { option_copied result ≡ option_map reading_of (open_course self.now.session.phase) }
+    {
+        self.machine.reader()
+    }
+
+    /// Returns how much the session asked for since it began to stay; a plain session counts nothing. No contract says what is counted.
     pub fn counts(&self) -> Counts {
         match &self.stay {
             None => Counts::none(),
@@ -234,7 +243,7 @@ impl Session {
         }
     }
 
-    /// Returns what the session asked for in each table since it stays, in roster order; nothing for one that doesn't stay. No
+    /// Returns what the session asked for in each table since it began to stay, in roster order; of a plain session nothing. No
     /// contract says what is counted.
     pub fn tables(&self) -> &[TableTally] {
         match &self.stay {

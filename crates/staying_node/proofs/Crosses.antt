@@ -12,16 +12,23 @@ use Rattle.table_types.specs.contracts.roster.Roster as Roster
 use Rattle.admin_text.specs.contracts.peers.Peer as Peer
 use Rattle.admin_text.specs.contracts.table_settings.TableSetting as TableSetting
 use Rattle.admin_text.specs.contracts.configurations.Configuration as Configuration
-use Rattle.node_core.proofs.Crosses.{asking_send}
+use Rattle.node_core.proofs.Crosses.{asking_send, number_times_send}
+use Rattle.node_log.proofs.Crosses.{told_send, waiting_send}
 use Rattle.table_shards.proofs.Crosses.{shards_sync}
 use Rattle.staying_node.specs.contracts.admin.AdminPort as AdminPort
 use Rattle.staying_node.specs.contracts.admin.Clients as Clients
 use Rattle.staying_node.specs.contracts.catching_up.CatchingUp as CatchingUp
 use Rattle.staying_node.specs.contracts.doors.Doors as Doors
 use Rattle.staying_node.specs.contracts.log.Log as Log
-use Rattle.staying_node.specs.contracts.slot.Slot as Slot
+use Rattle.staying_node.specs.contracts.metrics_port.MetricsPort as MetricsPort
+use Rattle.staying_node.specs.contracts.metrics_port.Visits as Visits
 use Rattle.staying_node.specs.contracts.node.Node as Node
-use Rattle.staying_node.specs.contracts.running.Ports as Ports
+use Rattle.staying_node.specs.contracts.numbering.Numbering as Numbering
+use Rattle.staying_node.specs.contracts.ports.Ports as Ports
+use Rattle.staying_node.specs.contracts.slot.Slot as Slot
+use Rattle.staying_node.specs.contracts.sockets.SocketFile as SocketFile
+use Rattle.staying_node.specs.contracts.streams.Listener as Listener
+use Rattle.staying_node.specs.contracts.streams.Stream as Stream
 
 roster_sync : IsSync (Roster.the_field).row
 roster_sync = search (sendable, crosses) depth 80 fits 20000
@@ -44,23 +51,50 @@ slot_sync = search (sendable, crosses) depth 80 fits 20000
 catching_up_sync : IsSync (CatchingUp.the_field).row
 catching_up_sync = search (asking_send, sendable, crosses) depth 80 fits 20000
 
-log_sync : IsSync (Log.the_field).row
-log_sync = search (sendable, crosses) depth 80 fits 20000
+numbering_sync : IsSync (Numbering.the_field).row
+numbering_sync = search (number_times_send, sendable, crosses) depth 80 fits 20000
+
+name_send : IsSend (Name.the_field).row
+name_send = search (sendable, crosses) depth 80 fits 20000
+
+pub log_sync : IsSync (Log.the_field).row
+log_sync = search (waiting_send, name_sync, sendable, crosses) depth 80 fits 20000
+
+pub log_send : IsSend (Log.the_field).row
+log_send = search (waiting_send, name_send, sendable, crosses) depth 80 fits 20000
 
 pub node_sync : IsSync (Node.the_field).row
-node_sync = search (roster_sync, configuration_sync, slot_sync, catching_up_sync, log_sync, shards_sync, sendable, crosses) depth 80 fits 20000
+node_sync = search (roster_sync, configuration_sync, slot_sync, catching_up_sync, numbering_sync, log_sync, log_send, shards_sync, sendable, crosses) depth 80 fits 20000
 
 doors_sync : IsSync (Doors.the_field).row
-doors_sync = search (sendable, crosses) depth 80 fits 20000
+doors_sync = search (told_send, sendable, crosses) depth 80 fits 20000
+
+stream_send : IsSend (Stream.the_field).row
+stream_send = search (sendable, crosses) depth 80 fits 20000
+
+stream_sync : IsSync (Stream.the_field).row
+stream_sync = search (sendable, crosses) depth 80 fits 20000
+
+pub listener_sync : IsSync (Listener.the_field).row
+listener_sync = search (sendable, crosses) depth 80 fits 20000
+
+file_sync : IsSync (SocketFile.the_field).row
+file_sync = search (sendable, crosses) depth 80 fits 20000
 
 clients_sync : IsSync (Clients.the_field).row
-clients_sync = search (sendable, crosses) depth 80 fits 20000
+clients_sync = search (stream_send, stream_sync, sendable, crosses) depth 80 fits 20000
 
 pub admin_sync : IsSync (AdminPort.the_field).row
-admin_sync = search (clients_sync, sendable, crosses) depth 80 fits 20000
+admin_sync = search (clients_sync, listener_sync, file_sync, sendable, crosses) depth 80 fits 20000
+
+visits_sync : IsSync (Visits.the_field).row
+visits_sync = search (stream_send, sendable, crosses) depth 80 fits 20000
+
+pub metrics_sync : IsSync (MetricsPort.the_field).row
+metrics_sync = search (visits_sync, listener_sync, sendable, crosses) depth 80 fits 20000
 
 pub ports_sync : IsSync (Ports.the_field).row
-ports_sync = search (doors_sync, admin_sync, sendable, crosses) depth 80 fits 20000
+ports_sync = search (doors_sync, admin_sync, metrics_sync, sendable, crosses) depth 80 fits 20000
 
 parts_send : (name : Sym) (As : List RattleType) → AllSend As → FieldsHave IsSend (type_at name As).parts
 parts_send name [] all = tt

@@ -2,8 +2,8 @@
 use Rattle.std.specs.Prelude.{Bool, true, false}
 use Rattle.peers_engine.specs.declared.errors.EngineError.{EngineError}
 use Rattle.peers_engine.specs.declared.errors.EngineError.TheVariants as errors
-use Rattle.admin_port.specs.declared.reports.SessionEnd.{SessionEnd}
-use Rattle.admin_port.specs.declared.reports.SessionEnd.TheVariants as ends
+use Rattle.node_core.specs.declared.session_ends.SessionEnd.{SessionEnd}
+use Rattle.node_core.specs.declared.session_ends.SessionEnd.TheVariants as ends
 
 -- A session that closed: the peer's messages had a fault, or its bytes ended. Otherwise the peer sent an error message or refused the node.
 abbrev pub end_of_closed : Bool → Bool → SessionEnd

@@ -3,14 +3,18 @@
 use crate::clock::milliseconds;
 use crate::devices::is_pause;
 use crate::node::{MOST_REQUESTERS, Node};
-use crate::requests::{Reading, Requester};
-use admin_port::{is_idle_too_long, longest_idle, push_too_many};
+use crate::reading::Reading;
+use crate::requests::Requester;
+use crate::sockets::SocketFile;
+use crate::streams::{Listener, Stream};
+use admin_port::{is_idle_too_long, longest_idle, makes_room, push_too_many};
 use std::alloc::{AllocError, Global};
-use std::io::{Read, Write};
-use std::net::{Net, Shutdown, SocketAddr, TcpListener, TcpStream};
-use std::sync::{Condvar, Mutex, Wait};
+use std::fs::Files;
+use std::io::{ErrorKind, Read, Write};
+use std::net::Shutdown;
+use std::sync::{Arc, Condvar, Mutex, Wait};
 use std::time::Clock;
-use std::{io, mem, thread};
+use std::{io, thread};
 use table_shards::Seat;
 
 /// How long a read waits before the thread looks whether the node stops, in milliseconds.
@@ -19,28 +23,23 @@ const LOOK: u64 = 200;
 /// How long a write waits for the client to read, in milliseconds.
 const WRITE_TIMEOUT: u64 = 4_000;
 
+/// How long requests of a connection may be answered before it makes room for another one, in milliseconds.
+const MOST_ANSWERING: u64 = 60_000;
+
 /// How long a connection waits behind its last answer for the client to close it, in milliseconds.
 const LINGER: u64 = 1_000;
 
 /// The size of one read.
 const PIECE: usize = 16_384;
 
-/// How long the port waits for what a client says that is too many, in milliseconds.
+/// How long a port waits for what a client says that is too many, in milliseconds.
 const GREETING: u64 = 100;
 
-/// How long a connection to a port of this node takes at most, in milliseconds.
-const WAKING: u64 = 100;
-
-/// How long the port waits after a connection couldn't be accepted, in milliseconds.
+/// How long a port waits after a connection couldn't be accepted, or before it looks again whether there is room, in milliseconds.
 const PAUSE: u64 = 20;
 
-/// Connects to a port of this node, so that the thread that accepts connections there wakes.
-pub(crate) fn wake<N: Net<Listener = TcpListener, Stream = TcpStream>>(
-    rt: &N,
-    address: &SocketAddr,
-) {
-    let _woken = TcpStream::connect_timeout(rt, address, milliseconds(WAKING));
-}
+/// How often it looks whether there is room for another connection, before the client is told that it is too many.
+const LOOKS: u32 = 6;
 
 /// How many places there are: as many as connections, and as many again for those that were shut down.
 const PLACES: u32 = 2 * MOST_REQUESTERS;
@@ -50,10 +49,10 @@ const PLACES: u32 = 2 * MOST_REQUESTERS;
 enum Place {
     /// There is none.
     Free,
-    /// It waits for a thread. The second handle is another one of the same connection.
-    Waits(TcpStream, TcpStream),
-    /// It is served by a thread, and this is another handle of it.
-    Served(TcpStream),
+    /// It waits for a thread.
+    Waits(Arc<Stream>),
+    /// It is served by a thread.
+    Served(Arc<Stream>),
     /// It was shut down, and its thread hasn't left it yet.
     Shut,
 }
@@ -61,13 +60,13 @@ enum Place {
 impl Place {
     /// Returns whether a connection waits or is served there.
     fn is_taken(&self) -> bool {
-        matches!(self, Place::Waits(_, _) | Place::Served(_))
+        matches!(self, Place::Waits(_) | Place::Served(_))
     }
 
     /// Closes the connection that waits there, or shuts down the one that is served.
     fn close(&mut self) {
         match self {
-            Place::Waits(_, _) => *self = Place::Free,
+            Place::Waits(_) => *self = Place::Free,
             Place::Served(stream) => {
                 let _shut = stream.shutdown(Shutdown::Both);
                 *self = Place::Shut;
@@ -82,8 +81,11 @@ impl Place {
 struct Connections {
     places: Vec<Place>,
     /// For each place since when the connection there has been idle, in milliseconds since the node began; `None` while a request of it is
-    /// being answered, and if there is none.
+    /// being answered, until a thread serves it, and if there is none.
     idle: Vec<Option<u64>>,
+    /// For each place since when requests of the connection there have been answered, in milliseconds since the node began; `None` while
+    /// there is none to be answered.
+    answering: Vec<Option<u64>>,
 }
 
 impl Connections {
@@ -92,22 +94,44 @@ impl Connections {
         self.places.iter().filter(|place| place.is_taken()).count()
     }
 
-    /// Closes the one that has been idle longest. Returns whether one is idle.
-    fn close_longest_idle(&mut self) -> bool {
-        let Some(longest) = longest_idle(self.idle.as_slice()) else {
+    /// Returns the place of the one that has been idle longest, if it makes room for another one at `now`.
+    fn idle_for_long(&self, now: u64) -> Option<usize> {
+        let longest = longest_idle(self.idle.as_slice())?;
+        match self.idle.get(longest) {
+            Some(Some(since)) if makes_room(*since, now) => Some(longest),
+            _ => None,
+        }
+    }
+
+    /// Returns the place of the one whose requests have been answered longest, if it makes room for another one at `now`, since its client
+    /// takes the answers so slowly.
+    fn answered_for_long(&self, now: u64) -> Option<usize> {
+        let longest = longest_idle(self.answering.as_slice())?;
+        match self.answering.get(longest) {
+            Some(Some(since)) if now.saturating_sub(*since) >= MOST_ANSWERING => Some(longest),
+            _ => None,
+        }
+    }
+
+    /// Closes one for another that comes at `now`, if one makes room. Returns whether one does.
+    fn make_room(&mut self, now: u64) -> bool {
+        let Some(leaving) = self.idle_for_long(now).or(self.answered_for_long(now)) else {
             return false;
         };
-        self.set_idle(longest, None);
-        if let Some(place) = self.places.get_mut(longest) {
+        self.set(leaving, None, None);
+        if let Some(place) = self.places.get_mut(leaving) {
             place.close();
         }
         true
     }
 
-    /// Notes since when the connection at a place has been idle, or that it isn't.
-    fn set_idle(&mut self, place: usize, since: Option<u64>) {
-        if let Some(idle) = self.idle.get_mut(place) {
-            *idle = since;
+    /// Notes since when the connection at a place has been idle, or since when requests of it have been answered.
+    fn set(&mut self, place: usize, idle: Option<u64>, answering: Option<u64>) {
+        if let Some(since) = self.idle.get_mut(place) {
+            *since = idle;
+        }
+        if let Some(since) = self.answering.get_mut(place) {
+            *since = answering;
         }
     }
 
@@ -116,43 +140,35 @@ impl Connections {
         matches!(self.places.get(place), Some(Place::Served(_)))
     }
 
-    /// Has a connection wait from `now`, for which the one goes that has been idle longest if there are too many. Hands it back if none is
-    /// idle.
-    fn add(&mut self, stream: TcpStream, handle: TcpStream, now: u64) -> Option<TcpStream> {
-        if self.count() >= MOST_REQUESTERS as usize && !self.close_longest_idle() {
-            return Some(stream);
+    /// Has a connection wait for a thread, for which another one goes that makes room if there are too many. Returns whether there is room
+    /// for it.
+    fn add(&mut self, stream: Arc<Stream>, now: u64) -> bool {
+        if self.count() >= MOST_REQUESTERS as usize && !self.make_room(now) {
+            return false;
         }
-        let free = self
-            .places
-            .iter()
-            .position(|place| matches!(place, Place::Free));
-        let Some(free) = free else {
-            return Some(stream);
-        };
-        if let Some(place) = self.places.get_mut(free) {
-            *place = Place::Waits(stream, handle);
+        for place in &mut self.places {
+            if matches!(place, Place::Free) {
+                *place = Place::Waits(stream);
+                return true;
+            }
         }
-        self.set_idle(free, Some(now));
-        None
+        false
     }
 
-    /// Takes one that waits, with its place, to be served.
-    fn take(&mut self) -> Option<(usize, TcpStream)> {
+    /// Takes one that waits, with its place, to be served from `now` on.
+    fn take(&mut self, now: u64) -> Option<(usize, Arc<Stream>)> {
         let waiting = self
             .places
             .iter()
-            .position(|place| matches!(place, Place::Waits(_, _)))?;
+            .position(|place| matches!(place, Place::Waits(_)))?;
         let place = self.places.get_mut(waiting)?;
-        match mem::replace(place, Place::Free) {
-            Place::Waits(stream, handle) => {
-                *place = Place::Served(handle);
-                Some((waiting, stream))
-            }
-            other => {
-                *place = other;
-                None
-            }
-        }
+        let stream = match place {
+            Place::Waits(stream) => Arc::try_clone(stream).ok()?,
+            _ => return None,
+        };
+        *place = Place::Served(Arc::try_clone(&stream).ok()?);
+        self.set(waiting, Some(now), None);
+        Some((waiting, stream))
     }
 }
 
@@ -168,36 +184,39 @@ impl Clients {
     fn new(alloc: Global) -> Result<Clients, AllocError> {
         let mut places = Vec::new(alloc);
         let mut idle = Vec::new(alloc);
+        let mut answering = Vec::new(alloc);
         for _ in 0..PLACES {
             places.push(Place::Free)?;
             idle.push(None)?;
+            answering.push(None)?;
         }
         Ok(Clients {
-            connections: Mutex::new(Connections { places, idle }),
+            connections: Mutex::new(Connections {
+                places,
+                idle,
+                answering,
+            }),
             arrived: Condvar::new(),
         })
     }
 
-    /// Has a connection wait for a thread from `now`. Hands it back if there is no room, or if the system has no other handle for it.
-    fn add<R: Wait>(&self, rt: &R, stream: TcpStream, now: u64) -> Option<TcpStream> {
-        let Ok(handle) = stream.try_clone() else {
-            return Some(stream);
-        };
+    /// Has a connection wait for a thread. Returns whether there is room for it at `now`.
+    fn add<R: Wait>(&self, rt: &R, stream: Arc<Stream>, now: u64) -> bool {
         let mut connections = self.connections.lock(rt);
-        let refused = connections.add(stream, handle, now);
+        let added = connections.add(stream, now);
         drop(connections);
         self.arrived.notify_one();
-        refused
+        added
     }
 
     /// Waits for a connection, and takes it with its place. Returns `None` once the node stops.
-    fn take<R: Wait>(&self, rt: &R, node: &Node) -> Option<(usize, TcpStream)> {
+    fn take<R: Wait + Clock>(&self, rt: &R, node: &Node) -> Option<(usize, Arc<Stream>)> {
         let mut connections = self.connections.lock(rt);
         for _ in rt.forever() {
             if node.stops() {
                 return None;
             }
-            if let Some(taken) = connections.take() {
+            if let Some(taken) = connections.take(node.clock.milliseconds(rt)) {
                 return Some(taken);
             }
             connections = self.arrived.wait(rt, connections);
@@ -205,25 +224,26 @@ impl Clients {
         unreachable!()
     }
 
-    /// Notes that what came on the connection at this place is being answered. Returns whether it is served still.
-    fn begin<R: Wait>(&self, rt: &R, place: usize) -> bool {
+    /// Notes that what came on the connection at this place is being answered from `now` on. Returns whether it is served still.
+    fn begin<R: Wait>(&self, rt: &R, place: usize, now: u64) -> bool {
         let mut connections = self.connections.lock(rt);
-        connections.set_idle(place, None);
-        connections.is_served(place)
+        let is_served = connections.is_served(place);
+        connections.set(place, None, if is_served { Some(now) } else { None });
+        is_served
     }
 
     /// Notes since when the connection at this place has been idle.
     fn rest<R: Wait>(&self, rt: &R, place: usize, since: u64) {
         let mut connections = self.connections.lock(rt);
         if connections.is_served(place) {
-            connections.set_idle(place, Some(since));
+            connections.set(place, Some(since), None);
         }
     }
 
     /// Notes that the connection at this place is no longer served.
     fn leave<R: Wait>(&self, rt: &R, place: usize) {
         let mut connections = self.connections.lock(rt);
-        connections.set_idle(place, None);
+        connections.set(place, None, None);
         if let Some(place) = connections.places.get_mut(place) {
             *place = Place::Free;
         }
@@ -240,42 +260,65 @@ impl Clients {
     }
 }
 
-/// The admin port.
+/// The admin port: where clients connect, over TCP, at a file, or both.
 #[derive(Drop)]
 pub(crate) struct AdminPort {
-    address: SocketAddr,
-    listener: TcpListener,
     clients: Clients,
+    tcp: Option<Listener>,
+    /// The socket at a file, and the file.
+    socket: Option<(Listener, SocketFile)>,
 }
 
 impl AdminPort {
-    /// Opens the port.
-    pub(crate) fn open<N: Net<Listener = TcpListener, Stream = TcpStream>>(
-        rt: &N,
-        alloc: Global,
-        address: SocketAddr,
-    ) -> io::Result<AdminPort> {
-        let clients = Clients::new(alloc)?;
-        let listener = TcpListener::bind(rt, address)?;
+    /// Returns the port at which nobody connects yet.
+    pub(crate) fn new(alloc: Global) -> Result<AdminPort, AllocError> {
         Ok(AdminPort {
-            address,
-            listener,
-            clients,
+            clients: Clients::new(alloc)?,
+            tcp: None,
+            socket: None,
         })
     }
 
-    /// Ends the threads of a node that stops: shuts down each client's connection, and connects to the port, so that the thread
-    /// that accepts connections wakes.
-    pub(crate) fn end<N: Net<Listener = TcpListener, Stream = TcpStream> + Wait>(&self, rt: &N) {
+    /// Has clients connect over TCP.
+    pub(crate) fn set_tcp(&mut self, listener: Listener) {
+        self.tcp = Some(listener);
+    }
+
+    /// Has clients connect at a file.
+    pub(crate) fn set_socket(&mut self, listener: Listener, file: SocketFile) {
+        self.socket = Some((listener, file));
+    }
+
+    /// Returns where clients connect over TCP.
+    pub(crate) fn tcp(&self) -> Option<&Listener> {
+        self.tcp.as_ref()
+    }
+
+    /// Returns where clients connect at a file.
+    pub(crate) fn socket(&self) -> Option<&Listener> {
+        match &self.socket {
+            Some((listener, _)) => Some(listener),
+            None => None,
+        }
+    }
+
+    /// Ends the threads of a node that stops, by shutting down each client's connection.
+    pub(crate) fn end<R: Wait>(&self, rt: &R) {
         self.clients.end(rt);
-        wake(rt, &self.address);
+    }
+
+    /// Removes the file at which clients connected.
+    pub(crate) fn remove_file<N: Files>(&self, rt: &N) {
+        if let Some((_, file)) = &self.socket {
+            file.remove(rt);
+        }
     }
 }
 
 /// Tells a client that there are too many, in the form in which it speaks. It has `GREETING` to say something.
-fn say_too_many(alloc: Global, stream: &TcpStream) -> io::Result<()> {
-    stream.set_read_timeout(Some(milliseconds(GREETING)))?;
-    stream.set_write_timeout(Some(milliseconds(GREETING)))?;
+pub(crate) fn say_too_many(alloc: Global, stream: &Stream) -> io::Result<()> {
+    stream.limit_reads(GREETING)?;
+    stream.limit_writes(GREETING)?;
     let mut piece = [0u8; PIECE];
     let mut from = stream;
     let count = match from.read(&mut piece) {
@@ -290,21 +333,65 @@ fn say_too_many(alloc: Global, stream: &TcpStream) -> io::Result<()> {
     stream.shutdown(Shutdown::Write)
 }
 
-/// Accepts the connections of clients for as long as the node runs.
-pub(crate) fn accept_clients<R: Wait + Clock>(rt: &R, node: &Node, port: &AdminPort) {
+/// Has a node stop if that is all that a client asks for on a connection. So it obeys even if no memory is left to read requests.
+fn obey_stop<R: Wait>(rt: &R, node: &Node, stream: &Stream, sent: &[u8]) -> io::Result<()> {
+    if sent != b"stop\n".as_slice() {
+        return Ok(());
+    }
+    let mut to = stream;
+    let answered = to.write_all(b"ok\n");
+    node.stop(rt);
+    answered
+}
+
+/// Reads what a client sends for which no memory is left, and obeys it if it is `stop`. It has `GREETING` to say that.
+fn serve_without_memory<R: Wait>(rt: &R, node: &Node, stream: &Stream) -> io::Result<()> {
+    stream.limit_reads(GREETING)?;
+    stream.limit_writes(GREETING)?;
+    let mut piece = [0u8; PIECE];
+    let mut from = stream;
+    let count = from.read(&mut piece)?;
+    obey_stop(rt, node, stream, &piece[..count.min(PIECE)])
+}
+
+/// Has the connection of a client wait for a thread once there is room for it, or says that it is too many.
+fn admit<R: Wait + Clock>(
+    rt: &R,
+    node: &Node,
+    clients: &Clients,
+    stream: Stream,
+) -> io::Result<()> {
+    let stream = match Arc::new(node.alloc, stream) {
+        Ok(stream) => stream,
+        Err(refused) => return serve_without_memory(rt, node, &refused.value),
+    };
+    for _ in 0..LOOKS {
+        let now = node.clock.milliseconds(rt);
+        if clients.add(rt, Arc::try_clone(&stream)?, now) {
+            return Ok(());
+        }
+        thread::sleep(rt, milliseconds(PAUSE));
+    }
+    say_too_many(node.alloc, &*stream)
+}
+
+/// Accepts the connections of clients at `listener` for as long as the node runs.
+pub(crate) fn accept_clients<R: Wait + Clock>(
+    rt: &R,
+    node: &Node,
+    port: &AdminPort,
+    listener: &Listener,
+) {
     for _ in rt.forever() {
-        let accepted = port.listener.accept();
+        let accepted = listener.accept();
         if node.stops() {
             return;
         }
         match accepted {
-            Ok((stream, _)) => {
-                let _nodelay = stream.set_nodelay(true);
-                let now = node.clock.milliseconds(rt);
-                if let Some(stream) = port.clients.add(rt, stream, now) {
-                    let _said = say_too_many(node.alloc, &stream);
-                }
+            Ok(stream) => {
+                let _admitted = admit(rt, node, &port.clients, stream);
             }
+            Err(error) if is_pause(error.kind()) => {}
             Err(_) => thread::sleep(rt, milliseconds(PAUSE)),
         }
     }
@@ -316,7 +403,7 @@ pub(crate) fn accept_clients<R: Wait + Clock>(rt: &R, node: &Node, port: &AdminP
 fn linger<R: Wait + Clock>(
     rt: &R,
     node: &Node,
-    stream: &TcpStream,
+    stream: &Stream,
     piece: &mut [u8],
 ) -> io::Result<()> {
     stream.shutdown(Shutdown::Write)?;
@@ -338,11 +425,7 @@ fn linger<R: Wait + Clock>(
 }
 
 /// Reads a piece of what a client sends, if one comes within `LOOK`. Returns its size, 0 for none, or `None` if no more comes.
-fn read_piece(
-    node: &Node,
-    stream: &TcpStream,
-    piece: &mut [u8; PIECE],
-) -> io::Result<Option<usize>> {
+fn read_piece(node: &Node, stream: &Stream, piece: &mut [u8; PIECE]) -> io::Result<Option<usize>> {
     let mut from = stream;
     match from.read(piece) {
         Ok(0) => Ok(None),
@@ -352,32 +435,52 @@ fn read_piece(
     }
 }
 
+/// Answers the requests that a client sends with `piece`. Returns whether the connection goes on. `begins` says whether it is the first piece.
+fn answer<R: Wait + Clock + Files>(
+    rt: &R,
+    requester: &mut Requester<'_>,
+    reading: &mut Reading,
+    stream: &Stream,
+    piece: &[u8],
+    begins: bool,
+) -> io::Result<bool> {
+    let mut to = stream;
+    match requester.answer(rt, reading, piece, &mut to) {
+        Err(error) if begins && error.kind() == ErrorKind::OutOfMemory => {
+            obey_stop(rt, requester.node(), stream, piece)?;
+            Err(error)
+        }
+        answered => answered,
+    }
+}
+
 /// Reads requests from the connection at a place and writes their answers until it ends, it has been idle for too long, another takes its
 /// place, the node stops, or a line ends it.
-fn serve<R: Wait + Clock>(
+fn serve<R: Wait + Clock + Files>(
     rt: &R,
     clients: &Clients,
     place: usize,
     requester: &mut Requester<'_>,
-    stream: &TcpStream,
+    stream: &Stream,
 ) -> io::Result<()> {
-    stream.set_read_timeout(Some(milliseconds(LOOK)))?;
-    stream.set_write_timeout(Some(milliseconds(WRITE_TIMEOUT)))?;
+    stream.limit_reads(LOOK)?;
+    stream.limit_writes(WRITE_TIMEOUT)?;
     let node = requester.node();
     let mut reading = Reading::new(node.alloc);
     let mut piece = [0u8; PIECE];
+    let mut begins = true;
     let mut since = node.clock.milliseconds(rt);
     for _ in rt.forever() {
         let Some(count) = read_piece(node, stream, &mut piece)? else {
             return Ok(());
         };
         if count > 0 {
-            if !clients.begin(rt, place) {
+            if !clients.begin(rt, place, node.clock.milliseconds(rt)) {
                 return Ok(());
             }
-            let mut to = stream;
             let read = &piece[..count.min(PIECE)];
-            let goes_on = requester.answer(rt, &mut reading, read, &mut to)?;
+            let goes_on = answer(rt, requester, &mut reading, stream, read, begins)?;
+            begins = false;
             if reading.take_answered() || !goes_on {
                 since = node.clock.milliseconds(rt);
             }
@@ -394,7 +497,12 @@ fn serve<R: Wait + Clock>(
 }
 
 /// Answers requests from when the threads of the node have started, for as long as it runs, one client after another.
-pub(crate) fn serve_clients<R: Wait + Clock>(rt: &R, node: &Node, port: &AdminPort, seat: Seat) {
+pub(crate) fn serve_clients<R: Wait + Clock + Files>(
+    rt: &R,
+    node: &Node,
+    port: &AdminPort,
+    seat: Seat,
+) {
     if !node.wait_to_connect(rt) {
         return;
     }
@@ -403,7 +511,7 @@ pub(crate) fn serve_clients<R: Wait + Clock>(rt: &R, node: &Node, port: &AdminPo
         let Some((place, stream)) = port.clients.take(rt, node) else {
             return;
         };
-        let _served = serve(rt, &port.clients, place, &mut requester, &stream);
+        let _served = serve(rt, &port.clients, place, &mut requester, &*stream);
         requester.tell_peers(rt);
         port.clients.leave(rt, place);
     }

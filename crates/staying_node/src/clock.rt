@@ -1,13 +1,22 @@
 //! The node's clock.
 
 use std::io;
-use std::time::{Clock, Duration, Instant};
+use std::time::{Clock, Duration, Instant, SystemTime, UNIX_EPOCH};
 use table_types::Moment;
 
 /// The clock of a node. A moment is 2^32 plus the milliseconds since the node began, by a clock that is never set back.
 #[derive(Clone, Copy, Debug)]
 pub(crate) struct NodeClock {
     start: Instant,
+    /// When the node began, in milliseconds since 1970, by the system's clock.
+    began: Option<u64>,
+}
+
+/// Returns the time by the system's clock, in milliseconds since 1970.
+fn since_1970<C: Clock>(rt: &C) -> Option<u64> {
+    let now = SystemTime::now(rt).ok()?;
+    let elapsed = now.duration_since(UNIX_EPOCH).ok()?;
+    u64::try_from(elapsed.as_millis()).ok()
 }
 
 impl NodeClock {
@@ -15,7 +24,13 @@ impl NodeClock {
     pub(crate) fn new<C: Clock>(rt: &C) -> io::Result<NodeClock> {
         Ok(NodeClock {
             start: Instant::now(rt)?,
+            began: since_1970(rt),
         })
+    }
+
+    /// Returns when the node began, in milliseconds since 1970, by what the system's clock said then.
+    pub(crate) fn began(&self) -> Option<u64> {
+        self.began
     }
 
     /// Returns the milliseconds since the node began, or 0 if the clock can't be read.

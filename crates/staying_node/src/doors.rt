@@ -2,14 +2,15 @@
 
 use crate::clock::milliseconds;
 use crate::devices::is_pause;
-use crate::node::Node;
+use crate::node::{Node, address_text};
 use crate::slot::{Arrival, Slot};
-use node_core::is_longest;
+use node_core::{Event, HelloRefusal, Sender, is_longest};
+use node_log::{Form, Told, push_line, sender_of, status_of};
 use node_text::push_number;
 use peers_hello::{Answer, Hello};
 use std::alloc::Global;
 use std::io::{Read, Write};
-use std::net::{TcpListener, TcpStream};
+use std::net::{SocketAddr, TcpListener, TcpStream};
 use std::os::fd::OwnedFd;
 use std::sync::atomic::{AtomicU64, Ordering};
 use std::sync::{Mutex, Wait};
@@ -42,6 +43,8 @@ pub(crate) struct Doors {
     turn: Mutex<()>,
     /// How many connections were accepted.
     accepted: AtomicU64,
+    /// The lines about hellos of strangers that the log has.
+    told: Mutex<Told>,
 }
 
 impl Doors {
@@ -55,6 +58,7 @@ impl Doors {
             silent: Mutex::new(silent),
             turn: Mutex::new(()),
             accepted: AtomicU64::new(0),
+            told: Mutex::new(Told::new(alloc)),
         })
     }
 
@@ -84,14 +88,127 @@ enum Found {
     Nothing,
 }
 
+/// Returns the index of the peer with this name.
+fn peer_with(node: &Node, name: &[u8]) -> Option<usize> {
+    node.names.iter().position(|peer| peer.as_slice() == name)
+}
+
 /// Returns the place of the peer with this name.
 fn slot_of<'a>(node: &'a Node, name: &Name) -> Option<&'a Slot> {
-    let index = node
-        .configuration
-        .peers
-        .iter()
-        .position(|peer| peer.name.as_slice() == name.as_slice())?;
-    node.slots.get(index)
+    node.slots.get(peer_with(node, name.as_slice())?)
+}
+
+/// Returns whether the peer with this index may come from an address.
+fn may_come(node: &Node, peer: usize, address: Option<SocketAddr>) -> bool {
+    match node.configuration.peers.get(peer) {
+        Some(peer) => peer.may_come_from(address.map(|address| address.ip())),
+        None => false,
+    }
+}
+
+/// Returns why a hello is refused with this status.
+fn refusal_of(status: u16) -> HelloRefusal {
+    match status {
+        502 => HelloRefusal::Version,
+        503 => HelloRefusal::OtherNode,
+        504 => HelloRefusal::Stranger,
+        _ => HelloRefusal::Garbled,
+    }
+}
+
+/// Returns whether it is news that a hello of the peer with this index was refused with this status, and notes that it was.
+fn is_news_of<R: Wait>(rt: &R, node: &Node, peer: usize, status: u16) -> bool {
+    match node.slots.get(peer) {
+        Some(slot) => slot.status(rt).refuse(status),
+        None => false,
+    }
+}
+
+/// Returns the host of an address as text, or nothing if it isn't known or memory runs out.
+fn host_text(alloc: Global, address: Option<SocketAddr>) -> String {
+    let Some(address) = address else {
+        return String::new(alloc);
+    };
+    let host = address.ip();
+    format!(in alloc; "{host}").unwrap_or(String::new(alloc))
+}
+
+/// Returns the event of a hello that was refused, whose sender calls itself `name`, which is empty if it says no name, and which came
+/// from this address.
+fn hello_event<'a>(
+    node: &'a Node,
+    name: &'a [u8],
+    peer: Option<usize>,
+    refusal: HelloRefusal,
+    address: &'a str,
+) -> Event<'a> {
+    let sender = if name.is_empty() {
+        None
+    } else if peer.is_some() {
+        Some(Sender::Peer(name))
+    } else {
+        Some(Sender::Stranger(name))
+    };
+    Event::HelloRefused {
+        sender,
+        address: address.as_bytes(),
+        refusal,
+        node: node.configuration.node.as_slice(),
+    }
+}
+
+/// Returns what is told of a refused hello of a stranger who calls itself `name` and comes from `host`, or a part of it if memory runs out.
+fn line_of_stranger<'x>(
+    node: &'x Node,
+    refusal: HelloRefusal,
+    name: &'x [u8],
+    host: &'x str,
+) -> Vec<u8> {
+    let event = hello_event(node, name, None, refusal, host);
+    let mut line = Vec::new(node.alloc);
+    let _whole = push_line(node.alloc, &mut line, Form::Journal, &event);
+    line
+}
+
+/// Says in the log that a hello from `address` is refused. Returns whether the line isn't left out.
+fn tell_of_refusal<'x, R: Wait + Clock>(
+    rt: &R,
+    node: &'x Node,
+    refusal: HelloRefusal,
+    name: &'x [u8],
+    peer: Option<usize>,
+    address: &'x str,
+) -> bool {
+    let event = hello_event(node, name, peer, refusal, address);
+    node.log.add(rt, peer, &event)
+}
+
+/// Says in the log that a hello is refused, whose sender calls itself `name`, which is empty if it says no name, if that is news.
+fn log_refusal<R: Wait + Clock>(
+    rt: &R,
+    node: &Node,
+    doors: &Doors,
+    stream: &TcpStream,
+    refusal: HelloRefusal,
+    name: &[u8],
+) {
+    let far = stream.peer_addr().ok();
+    let text = address_text(node.alloc, far);
+    let address = text.as_str();
+    if let Some(peer) = peer_with(node, name) {
+        if is_news_of(rt, node, peer, status_of(refusal)) {
+            let _said = tell_of_refusal(rt, &*node, refusal, &*name, Some(peer), address);
+        }
+        return;
+    }
+    let host = host_text(node.alloc, far);
+    let line = line_of_stranger(&*node, refusal, &*name, host.as_str());
+    let mut told = doors.told.lock(rt);
+    if told.is_news(line.as_slice())
+        && tell_of_refusal(rt, &*node, refusal, &*name, None, address)
+    {
+        let _noted = told.note(node.alloc, line.as_slice());
+    }
 }
 
 /// Writes a status line.
@@ -208,13 +325,40 @@ impl<'a, R: Wait + Clock> Door<'a, R> {
             return Some(Found::Nothing);
         };
         match answer {
-            Answer::Accepted(name, _, _) => Some(Found::Peer(name)),
-            Answer::Refused(code, _) => {
-                let _refused = refuse(node.alloc, stream, code);
+            Answer::Accepted(name, _, _) => Some(self.admit(stream, name)),
+            Answer::Refused(status, _) => {
+                let refusal = refusal_of(status);
+                let sender = match refusal {
+                    HelloRefusal::Garbled => None,
+                    _ => Some(sender_of(bytes)),
+                };
+                self.turn_away(stream, refusal, sender);
                 Some(Found::Nothing)
             }
             Answer::More => None,
         }
+    }
+
+    /// Returns what the hello of the peer with this name comes to: it is refused if the peer may not come from where it came.
+    fn admit(&self, stream: &TcpStream, name: Name) -> Found {
+        let address = stream.peer_addr().ok();
+        match peer_with(self.node, name.as_slice()) {
+            Some(peer) if may_come(self.node, peer, address) => Found::Peer(name),
+            _ => {
+                self.turn_away(stream, HelloRefusal::Elsewhere, Some(name.as_slice()));
+                Found::Nothing
+            }
+        }
+    }
+
+    /// Refuses a hello, whose sender calls itself so, and says it in the log if that is news.
+    fn turn_away(&self, stream: &TcpStream, refusal: HelloRefusal, name: Option<&[u8]>) {
+        let node = self.node;
+        let status = status_of(refusal);
+        node.count_refused(status);
+        let name = name.unwrap_or(&[]);
+        log_refusal(self.rt, node, self.doors, stream, refusal, name);
+        let _refused = refuse(node.alloc, stream, status);
     }
 
     /// Returns why the door goes on with no more of a hello that began at `begun`, if it doesn't: the node stops, the hello takes

@@ -3,7 +3,7 @@
 ghost use Rattle.std.specs.Prelude.{◌≡◌};
 ghost use Rattle.staying_node.specs.Ends.{end_of_closed, end_of_error};
 
-use admin_port::SessionEnd;
+use node_core::SessionEnd;
 use peers_engine::EngineError;
 
 /// Returns why a session is over that closed: whether the peer's messages had a fault, and whether its bytes ended.

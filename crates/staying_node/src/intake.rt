@@ -6,6 +6,9 @@ use std::io;
 use std::io::{ErrorKind, Read};
 use std::sync::Wait;
 
+/// How many of the first bytes are kept: as many as the longest line of a status has, and more.
+const HEAD: usize = 16;
+
 /// A reader of what the remote peer sent. A read fails with `WouldBlock`, which isn't counted, if there is nothing to read yet.
 #[derive(Drop)]
 pub(crate) struct Intake<'a, R> {
@@ -16,6 +19,10 @@ pub(crate) struct Intake<'a, R> {
     pub(crate) total: u64,
     /// Whether the end of the input was read.
     pub(crate) ended: bool,
+    /// The first bytes of the input, as far as they were read: those of a status.
+    first: [u8; HEAD],
+    /// How many they are.
+    count: usize,
 }
 
 impl<'a, R> Intake<'a, R> {
@@ -27,6 +34,24 @@ impl<'a, R> Intake<'a, R> {
             failures: 0,
             total: 0,
             ended: false,
+            first: [0; HEAD],
+            count: 0,
+        }
+    }
+
+    /// Returns the first bytes of the input, as far as they were read.
+    pub(crate) fn head(&self) -> &[u8] {
+        &self.first[..self.count.min(HEAD)]
+    }
+
+    /// Keeps the first bytes of the input.
+    fn keep(&mut self, bytes: &[u8]) {
+        for byte in bytes {
+            let Some(place) = self.first.get_mut(self.count) else {
+                return;
+            };
+            *place = *byte;
+            self.count += 1;
         }
     }
 
@@ -60,6 +85,9 @@ impl<'a, R: Wait> Read for Intake<'a, R> {
     fn read(&mut self, buffer: &mut [u8]) -> io::Result<usize> {
         let read = self.inbox.take(self.rt, buffer);
         self.note(&read);
+        if let Ok(count) = read {
+            self.keep(&buffer[..count.min(buffer.len())]);
+        }
         read
     }
 }

@@ -5,23 +5,36 @@
 
 mod admin;
 mod bell;
+mod brought;
 mod catching_up;
 mod clock;
+mod definitions;
 mod devices;
 mod doors;
 mod ends;
 mod fault_counts;
 mod inbox;
 mod intake;
+mod lags;
 mod log;
+mod measuring;
+mod metrics_port;
 mod node;
+mod numbering;
 mod outbox;
 mod peers;
+mod ports;
+mod process;
+mod reading;
 mod requests;
 mod running;
 mod sessions;
 mod slot;
+mod sockets;
 mod status;
+mod streams;
+mod summed;
 mod tables;
+mod viewing;
 
 pub use running::run;

@@ -4,13 +4,17 @@ use crate::bell::Bell;
 use crate::catching_up::CatchingUp;
 use crate::clock::{NodeClock, milliseconds};
 use crate::fault_counts::FaultCounts;
+use crate::lags::Lags;
 use crate::log::Log;
+use crate::numbering::Numbering;
 use crate::slot::Slot;
 use admin_text::Configuration;
-use node_core::ALONE;
+use node_core::{ALONE, Event, PeerEvent};
 use std::alloc::Global;
-use std::sync::Wait;
-use std::sync::atomic::{AtomicBool, Ordering};
+use std::net::SocketAddr;
+use std::sync::atomic::{AtomicBool, AtomicU64, Ordering};
+use std::sync::{Arc, Wait};
+use std::thread;
 use std::time::Clock;
 use table_cell::TableCell;
 use table_shards::{Seat, Shards};
@@ -23,7 +27,7 @@ pub(crate) const MOST_REQUESTERS: u32 = 32;
 pub(crate) const REST: u64 = 5_000;
 
 /// How long a node that stops waits for its peers, in milliseconds.
-const LAST: u64 = 1_000;
+const LAST: u64 = 3_000;
 
 /// How often it looks meanwhile whether a session stands, in milliseconds.
 const ENDING: u64 = 10;
@@ -42,8 +46,13 @@ pub(crate) struct Node {
     /// The place of each peer, in the configuration's order.
     pub(crate) slots: Vec<Slot>,
     pub(crate) catching_up: CatchingUp,
-    pub(crate) log: Log,
+    /// The log, which the thread that writes it shares.
+    pub(crate) log: Arc<Log, Global>,
+    /// How many hellos were refused with each status from 501 on.
+    refused: [AtomicU64; 4],
     pub(crate) faults: FaultCounts,
+    pub(crate) numbering: Numbering,
+    pub(crate) lags: Lags,
     /// Rings when all threads of the node have started, when the node is up to date, and when it stops.
     pub(crate) changed: Bell,
     /// Whether all threads of the node have started.
@@ -123,6 +132,14 @@ fn seats_of(alloc: Global, seats: Vec<Seat>, peers: usize) -> Result<Seats, Memo
     }
 }
 
+/// Returns an address as text, or nothing if it isn't known or memory runs out.
+pub(crate) fn address_text(alloc: Global, address: Option<SocketAddr>) -> String {
+    match address {
+        Some(address) => format!(in alloc; "{address}").unwrap_or(String::new(alloc)),
+        None => String::new(alloc),
+    }
+}
+
 /// Returns a place for each peer.
 fn slots_of(alloc: Global, peers: usize) -> Result<Vec<Slot>, Memory> {
     let mut slots = Vec::with_capacity(alloc, peers)?;
@@ -149,6 +166,14 @@ impl Node {
         };
         let (shards, seats) = Shards::new(alloc, cells, seats)?;
         let seats = seats_of(alloc, seats, peers)?;
+        let log = Log::new(
+            alloc,
+            configuration.log,
+            clock,
+            names_of(alloc, &configuration)?,
+        );
+        let log = Arc::new(alloc, log).map_err(|_| Memory)?;
+        let tables = roster.tables().len();
         let node = Node {
             alloc,
             clock,
@@ -158,8 +183,16 @@ impl Node {
             shards,
             slots: slots_of(alloc, peers)?,
             catching_up: CatchingUp::new(alloc, peers)?,
-            log: Log::new(alloc),
+            log,
+            refused: [
+                AtomicU64::new(0),
+                AtomicU64::new(0),
+                AtomicU64::new(0),
+                AtomicU64::new(0),
+            ],
             faults: FaultCounts::new(alloc),
+            numbering: Numbering::new(alloc, tables)?,
+            lags: Lags::new(alloc),
             changed: Bell::new(),
             started: AtomicBool::new(false),
             stopped: AtomicBool::new(false),
@@ -201,25 +234,33 @@ impl Node {
     pub(crate) fn stop<R: Wait>(&self, rt: &R) {
         self.stopped.store(true, Ordering::SeqCst);
         self.changed.ring(rt);
-        self.log.bell.ring(rt);
         self.ring_all(rt);
     }
 
-    /// Waits until no session stands, for `LAST` at most, and then shuts down the connections of those that do.
-    pub(crate) fn end_sessions<R: Wait + Clock>(&self, rt: &R) {
-        let until = self.clock.milliseconds(rt).saturating_add(LAST);
+    /// Waits until the node stops.
+    pub(crate) fn wait_to_stop<R: Wait + Clock>(&self, rt: &R) {
         for _ in rt.forever() {
             let seen = self.changed.rings(rt);
-            let now = self.clock.milliseconds(rt);
-            if now >= until || !self.slots.iter().any(|slot| slot.has_session(rt)) {
+            if self.stops() {
+                return;
+            }
+            self.changed.wait(rt, seen, milliseconds(REST));
+        }
+    }
+
+    /// Waits until no session stands, for `LAST` at most, and then shuts down the connections of those that do. One that begins later
+    /// finds that the node stops.
+    pub(crate) fn end_sessions<R: Wait + Clock>(&self, rt: &R) {
+        for _ in 0..LAST / ENDING {
+            if !self.slots.iter().any(|slot| slot.has_session(rt)) {
                 break;
             }
-            self.changed.wait(rt, seen, milliseconds(ENDING));
+            thread::sleep(rt, milliseconds(ENDING));
         }
         self.shut_all(rt);
     }
 
-    /// Returns whether no session may stand.
+    /// Returns whether no session may stand, since a table gets new numbers.
     pub(crate) fn is_paused(&self) -> bool {
         self.paused.load(Ordering::SeqCst)
     }
@@ -248,10 +289,57 @@ impl Node {
         self.ring_all(rt);
     }
 
-    /// Adds a line about the peer with this index to the log.
-    pub(crate) fn log_peer<R: Wait>(&self, rt: &R, peer: usize, words: &[&[u8]]) {
-        if let Some(name) = self.names.get(peer) {
-            self.log.line(rt, name, words);
+    /// Adds a line about what happens to the node to the log.
+    pub(crate) fn log_event<R: Wait + Clock>(&self, rt: &R, event: Event<'_>) {
+        self.log.add(rt, None, &event);
+    }
+
+    /// Adds a line about what happens with the peer with this index to the log.
+    pub(crate) fn log_peer_event<R: Wait + Clock>(
+        &self,
+        rt: &R,
+        peer: usize,
+        event: PeerEvent<'_>,
+    ) {
+        let far = match self.slots.get(peer) {
+            Some(slot) => slot.status(rt).far,
+            None => None,
+        };
+        self.log_peer_event_at(rt, peer, far, event);
+    }
+
+    /// Adds a line about what happens with the peer with this index to the log, or happened on a connection whose far end this is.
+    pub(crate) fn log_peer_event_at<R: Wait + Clock>(
+        &self,
+        rt: &R,
+        peer: usize,
+        far: Option<SocketAddr>,
+        event: PeerEvent<'_>,
+    ) {
+        let Some(configured) = self.configuration.peers.get(peer) else {
+            return;
+        };
+        let address = address_text(self.alloc, far.or(configured.address));
+        let event = Event::OfPeer {
+            name: configured.name.as_slice(),
+            address: address.as_bytes(),
+            event,
+        };
+        self.log.add(rt, Some(peer), &event);
+    }
+
+    /// Counts a hello that was refused with this status.
+    pub(crate) fn count_refused(&self, status: u16) {
+        if let Some(count) = self.refused.get(usize::from(status).wrapping_sub(501)) {
+            count.fetch_add(1, Ordering::SeqCst);
+        }
+    }
+
+    /// Returns how many hellos were refused with this status.
+    pub(crate) fn hellos_refused(&self, status: u16) -> u64 {
+        match self.refused.get(usize::from(status).wrapping_sub(501)) {
+            Some(count) => count.load(Ordering::SeqCst),
+            None => 0,
         }
     }
 

@@ -1,11 +1,12 @@
 //! The worker of a peer: it connects, takes connections of the peer, and holds its sessions.
 
 use crate::clock::milliseconds;
+use crate::devices::reason_text;
 use crate::node::{Node, REST};
 use crate::sessions::{Connection, Place, hold};
 use crate::slot::{Arrival, Slot};
 use admin_port::PeerRole;
-use node_core::WRITE_TIME;
+use node_core::{Failure, PeerEvent, WRITE_TIME};
 use std::net::{Net, SocketAddr, TcpListener, TcpStream};
 use std::sync::Wait;
 use std::thread::Threads;
@@ -72,7 +73,7 @@ fn version_after(fell_back: bool) -> Version {
 
 /// Returns a connection to work with, if there is one: one that waits, or one that this node makes now if `attempts`. There is none
 /// while no session may stand. `fell_back` says whether the session of the last attempt fell back, and no longer does so after this one.
-fn next_connection<N: Net<Listener = TcpListener, Stream = TcpStream> + Wait>(
+fn next_connection<N: Net<Listener = TcpListener, Stream = TcpStream> + Wait + Clock>(
     place: &Place<'_, N>,
     attempts: bool,
     fell_back: &mut bool,
@@ -89,15 +90,35 @@ fn next_connection<N: Net<Listener = TcpListener, Stream = TcpStream> + Wait>(
     }
     let address = node.configuration.peers.get(place.peer)?.address?;
     let version = version_after(mem::replace(fell_back, false));
-    let Ok(stream) = connected(place.rt, &address) else {
-        return None;
-    };
     Some(Connection {
-        stream,
+        stream: attempt(place, &address)?,
         role: PeerRole::Connect,
         version,
         bytes: Vec::new(node.alloc),
     })
+}
+
+/// Connects to a peer if it can be reached. The log says so if that is news.
+fn attempt<N: Net<Listener = TcpListener, Stream = TcpStream> + Wait + Clock>(
+    place: &Place<'_, N>,
+    address: &SocketAddr,
+) -> Option<TcpStream> {
+    let (rt, node, slot) = (place.rt, place.node, place.slot);
+    if slot.status(rt).attempt() {
+        node.log_peer_event(rt, place.peer, PeerEvent::Connecting);
+    }
+    match connected(rt, address) {
+        Ok(stream) => Some(stream),
+        Err(error) => {
+            let failure = Failure::Unreachable(error.raw_os_error());
+            if slot.status(rt).fail(failure) {
+                let reason = reason_text(node.alloc, &error).unwrap_or(String::new(node.alloc));
+                let reason = reason.as_bytes();
+                node.log_peer_event(rt, place.peer, PeerEvent::Unreachable { reason });
+            }
+            None
+        }
+    }
 }
 
 /// Holds sessions at a peer's place, one after another, until the node stops.

@@ -1,20 +1,28 @@
 //! The subcommand `run`.
 
-use crate::admin::{AdminPort, accept_clients, serve_clients, wake};
+use crate::admin::{AdminPort, accept_clients, serve_clients};
 use crate::clock::{NodeClock, milliseconds};
-use crate::doors::{DOORS, Doors, keep_door, limit_accepts};
-use crate::node::{Node, REST, Seats};
+use crate::doors::{DOORS, keep_door};
+use crate::log::Log;
+use crate::metrics_port::{MetricsPort, VIEWERS, accept_visits, serve_visits};
+use crate::node::{Node, Seats};
+use crate::numbering::look_at_numbers;
 use crate::peers::keep_peer;
+use crate::ports::{Ports, StartError, log_ports};
+use crate::streams::Listener;
+use crate::summed::Summed;
 use crate::tables::keep;
 use admin_text::Configuration;
-use peers_devices::{Faults, write_all};
+use node_core::{Event, Need, PeerEvent, Renewal, VERSION};
+use peers_devices::Faults;
 use std::alloc::Global;
+use std::fs::Files;
 use std::io::{Read, Write};
 use std::net::{Net, TcpListener, TcpStream};
-use std::sync::Wait;
-use std::thread::{Scope, Threads};
+use std::sync::{Arc, Wait};
+use std::thread;
+use std::thread::{JoinHandle, Scope, Threads};
 use std::time::Clock;
-use std::{io, thread};
 use table_shards::Seat;
 use text_commands::{Ending, configuration_of};
 
@@ -27,39 +35,11 @@ const IDLING: u64 = 200;
 /// How often rows that have ended are purged, in milliseconds.
 const PURGING: u64 = 1_000;
 
-/// The ports of a node.
-#[derive(Drop)]
-struct Ports {
-    peers: TcpListener,
-    doors: Doors,
-    admin: Option<AdminPort>,
-}
-
-/// Opens the ports of a configuration.
-fn ports_of<N: Net<Listener = TcpListener, Stream = TcpStream>>(
-    rt: &N,
-    alloc: Global,
-    configuration: &Configuration,
-    doors: Doors,
-) -> io::Result<Ports> {
-    let peers = TcpListener::bind(rt, configuration.listen)?;
-    limit_accepts(&peers)?;
-    let admin = match configuration.admin {
-        Some(address) => Some(AdminPort::open(rt, alloc, address)?),
-        None => None,
-    };
-    Ok(Ports {
-        peers,
-        doors,
-        admin,
-    })
-}
-
 /// Has the node no longer wait for a peer that doesn't answer, and has it be up to date if nobody has more to teach.
-fn pass<N: Wait>(rt: &N, node: &Node, now: u64) {
+fn pass<N: Wait + Clock>(rt: &N, node: &Node, now: u64) {
     let passed = node.catching_up.pass(rt, now);
     if let Some(peer) = passed.unanswered {
-        node.log_peer(rt, peer, &[b"unanswered"]);
+        node.log_peer_event(rt, peer, PeerEvent::Unanswered);
     }
     if passed.settled || passed.unanswered.is_some() {
         node.tell_of_catching_up(rt);
@@ -69,6 +49,7 @@ fn pass<N: Wait>(rt: &N, node: &Node, now: u64) {
 /// Looks after the tables until the node stops.
 fn keep_tables<N: Wait + Clock>(rt: &N, node: &Node, mut seat: Seat) {
     let mut purge = 0;
+    let mut renewal = Renewal::new();
     for _ in rt.forever() {
         let seen = node.changed.rings(rt);
         if node.stops() {
@@ -79,38 +60,80 @@ fn keep_tables<N: Wait + Clock>(rt: &N, node: &Node, mut seat: Seat) {
         if purges {
             purge = now.saturating_add(PURGING);
         }
-        let soon = keep(rt, node, &mut seat, purges);
+        let soon = keep(rt, node, &mut seat, &mut renewal, purges);
+        look_at_numbers(rt, node);
         pass(rt, node, now);
         let time = if soon { KEEPING } else { IDLING };
         node.changed.wait(rt, seen, milliseconds(time));
     }
 }
 
-/// Writes the lines of the log that wait.
-fn write_log<N: Wait, E: Write + Faults>(rt: &N, node: &Node, errors: &mut E) -> Ending {
-    match write_all(errors, node.log.take(rt).as_slice()) {
-        Ok(()) => Ending::Done,
-        Err(_) => Ending::Device,
+/// Starts the thread that writes the log to `errors`. It isn't one of those that are joined whatever happens, since a write may wait for
+/// ever for whoever reads standard error; if it does, it ends with the process.
+fn start_log<
+    N: Threads + Wait + Clock + Copy + Send + 'static,
+    L: Write + Faults + Send + Drop + 'static,
+>(rt: &N, node: &Node, errors: L) -> Option<JoinHandle<()>> {
+    let log = Arc::try_clone(&node.log).ok()?;
+    let own = *rt;
+    let started = thread::spawn(rt, move || write_log(&own, &log, errors));
+    started.ok()
+}
+
+/// Writes the log until no more lines come.
+fn write_log<N: Wait + Clock, L: Write + Faults + Drop>(rt: &N, log: &Log, errors: L) {
+    let mut errors = errors;
+    log.keep(rt, &mut errors);
+}
+
+/// Has no more lines come to the log, and joins the thread that writes it, unless that waits for whoever reads standard error.
+fn end_log<N: Threads + Wait + Clock>(rt: &N, node: &Node, writer: JoinHandle<()>) {
+    if node.log.close(rt) {
+        writer.join(rt);
     }
 }
 
-/// Writes the log until the node stops, or the log can't be written.
-fn keep_log<N: Wait + Clock, E: Write + Faults>(rt: &N, node: &Node, errors: &mut E) -> Ending {
-    for _ in rt.forever() {
-        let seen = node.log.bell.rings(rt);
-        if write_log(rt, node, errors) == Ending::Device {
-            return Ending::Device;
-        }
-        if node.stops() {
-            return Ending::Done;
-        }
-        node.log.bell.wait(rt, seen, milliseconds(REST));
-    }
-    unreachable!()
+/// Adds the lines of a start to the log: the program's version, the configuration's checksum, and the ports.
+fn log_start<N: Wait + Clock>(rt: &N, node: &Node, checksum: &[u8]) {
+    node.log_event(
+        rt,
+        Event::Start {
+            version: VERSION.as_bytes(),
+            configuration: checksum,
+            node: node.configuration.node.as_slice(),
+        },
+    );
+    log_ports(rt, node);
 }
 
 /// Starts the threads of the admin port. Returns whether all could be started.
 fn start_admin<
+    's,
+    E: 's,
+    N: Net<Listener = TcpListener, Stream = TcpStream> + Files + Threads + Wait + Clock + Sync,
+>(
+    rt: &'s N,
+    scope: &'s Scope<'s, E>,
+    node: &'s Node,
+    port: &'s AdminPort,
+    requesters: Vec<Seat>,
+) -> bool
+where
+    N::File: Send + Sync,
+    N::Dir: Send + Sync,
+{
+    for seat in requesters {
+        let started = scope.spawn(move || serve_clients(rt, node, port, seat));
+        if started.is_err() {
+            return false;
+        }
+    }
+    start_accepting(rt, scope, node, port, port.tcp())
+        && start_accepting(rt, scope, node, port, port.socket())
+}
+
+/// Starts the thread that accepts the connections of clients at a listener, if there is one. Returns whether it could be started.
+fn start_accepting<
     's,
     E: 's,
     N: Net<Listener = TcpListener, Stream = TcpStream> + Threads + Wait + Clock + Sync,
@@ -119,15 +142,33 @@ fn start_admin<
     scope: &'s Scope<'s, E>,
     node: &'s Node,
     port: &'s AdminPort,
-    requesters: Vec<Seat>,
+    listener: Option<&'s Listener>,
 ) -> bool {
-    for seat in requesters {
-        let started = scope.spawn(move || serve_clients(rt, node, port, seat));
+    match listener {
+        Some(listener) => scope
+            .spawn(move || accept_clients(rt, node, port, listener))
+            .is_ok(),
+        None => true,
+    }
+}
+
+/// Starts the threads of the port of metrics. Returns whether all could be started.
+fn start_metrics<
+    's,
+    E: 's,
+    N: Net<Listener = TcpListener, Stream = TcpStream> + Files + Threads + Wait + Clock + Sync,
+>(rt: &'s N, scope: &'s Scope<'s, E>, node: &'s Node, port: &'s MetricsPort) -> bool
+where
+    N::File: Send + Sync,
+    N::Dir: Send + Sync,
+{
+    for _ in 0..VIEWERS {
+        let started = scope.spawn(move || serve_visits(rt, node, port));
         if started.is_err() {
             return false;
         }
     }
-    scope.spawn(move || accept_clients(rt, node, port)).is_ok()
+    scope.spawn(move || accept_visits(rt, node, port)).is_ok()
 }
 
 /// Starts the threads that keep sessions: those of the peers, and the doors. Returns whether all could be started.
@@ -151,12 +192,16 @@ fn start_peers<
     true
 }
 
-/// Starts the threads of a node. Returns whether all could be started; only then do those that keep sessions begin.
+/// Starts the threads of a node. Returns whether all could be started. Those that keep sessions or answer clients wait until the node starts.
 fn start_all<
     's,
     E: 's,
-    N: Net<Listener = TcpListener, Stream = TcpStream> + Threads + Wait + Clock + Sync,
->(rt: &'s N, scope: &'s Scope<'s, E>, node: &'s Node, ports: &'s Ports, seats: Seats) -> bool {
+    N: Net<Listener = TcpListener, Stream = TcpStream> + Files + Threads + Wait + Clock + Sync,
+>(rt: &'s N, scope: &'s Scope<'s, E>, node: &'s Node, ports: &'s Ports, seats: Seats) -> bool
+where
+    N::File: Send + Sync,
+    N::Dir: Send + Sync,
+{
     let Seats {
         keeper,
         peers,
@@ -167,78 +212,131 @@ fn start_all<
         Some(port) => keeps && start_admin(rt, scope, node, port, requesters),
         None => keeps,
     };
-    let starts = serves && start_peers(rt, scope, node, ports, peers);
-    if starts {
-        node.start(rt);
-    }
-    starts
+    let shows = match &ports.metrics {
+        Some(port) => serves && start_metrics(rt, scope, node, port),
+        None => serves,
+    };
+    shows && start_peers(rt, scope, node, ports, peers)
 }
 
-/// Runs the threads of a node until it stops.
+/// Runs the threads of a node whose configuration has this checksum until it stops. Returns whether all could be started.
 fn run_in<
     's,
     X: 's,
-    N: Net<Listener = TcpListener, Stream = TcpStream> + Threads + Wait + Clock + Sync,
-    E: Write + Faults,
+    N: Net<Listener = TcpListener, Stream = TcpStream> + Files + Threads + Wait + Clock + Sync,
 >(
     rt: &'s N,
     scope: &'s Scope<'s, X>,
     node: &'s Node,
     ports: &'s Ports,
     seats: Seats,
-    errors: &mut E,
-) -> Ending {
-    let ending = if start_all(rt, scope, node, ports, seats) {
-        keep_log(rt, node, errors)
-    } else {
-        Ending::Device
-    };
+    checksum: &[u8],
+) -> bool
+where
+    N::File: Send + Sync,
+    N::Dir: Send + Sync,
+{
+    let starts = start_all(rt, scope, node, ports, seats);
+    if starts {
+        log_start(rt, node, checksum);
+        node.start(rt);
+        node.wait_to_stop(rt);
+        node.log_event(rt, Event::Stop);
+    }
     node.stop(rt);
-    if let Some(port) = &ports.admin {
-        port.end(rt);
-    }
-    wake(rt, &node.configuration.listen);
+    ports.end(rt, node.alloc);
     node.end_sessions(rt);
-    ending
+    starts
 }
 
-/// Runs the node of a configuration until it stops, and writes what its threads still have to say.
+/// Makes the node of a configuration, and opens its ports.
+fn begun<N: Net<Listener = TcpListener, Stream = TcpStream> + Files + Clock>(
+    rt: &N,
+    alloc: Global,
+    configuration: Configuration,
+) -> Result<(Node, Seats, Ports), StartError> {
+    let clock = match NodeClock::new(rt) {
+        Ok(clock) => clock,
+        Err(error) => return Err(StartError::lacks(alloc, Need::Clock, "", &error)),
+    };
+    let (node, seats) = Node::new(alloc, clock, configuration)?;
+    let ports = Ports::open(rt, alloc, &node.configuration)?;
+    Ok((node, seats, ports))
+}
+
+/// Runs the node of a configuration with this checksum until it stops, and writes its log to `log`.
 fn run_node<
-    N: Net<Listener = TcpListener, Stream = TcpStream> + Threads + Wait + Clock + Sync,
-    E: Write + Faults,
->(rt: &N, alloc: Global, configuration: Configuration, errors: &mut E) -> Ending {
-    let Ok(doors) = Doors::new(alloc) else {
-        return Ending::Memory;
+    N: Net<Listener = TcpListener, Stream = TcpStream>
+        + Files
+        + Threads
+        + Wait
+        + Clock
+        + Sync
+        + Copy
+        + Send
+        + 'static,
+    L: Write + Faults + Send + Drop + 'static,
+>(
+    rt: &N,
+    alloc: Global,
+    configuration: Configuration,
+    checksum: &[u8],
+    log: L,
+) -> Result<(), StartError>
+where
+    N::File: Send + Sync,
+    N::Dir: Send + Sync,
+{
+    let (node, seats, ports) = begun(rt, alloc, configuration)?;
+    let Some(writer) = start_log(rt, &node, log) else {
+        ports.remove_file(rt);
+        return Err(StartError::no_thread(alloc));
     };
-    let Ok(ports) = ports_of(rt, alloc, &configuration, doors) else {
-        return Ending::Device;
-    };
-    let Ok(clock) = NodeClock::new(rt) else {
-        return Ending::Device;
-    };
-    let Ok((node, seats)) = Node::new(alloc, clock, configuration) else {
-        return Ending::Memory;
-    };
-    let ending = thread::scope(thread::scope_env(), rt, |scope| {
-        run_in(rt, scope, &node, &ports, seats, errors)
+    let started = thread::scope(thread::scope_env(), rt, |scope| {
+        run_in(rt, scope, &node, &ports, seats, checksum)
     });
-    match ending {
-        Ending::Done => write_log(rt, &node, errors),
-        ending => ending,
+    ports.remove_file(rt);
+    end_log(rt, &node, writer);
+    if started {
+        Ok(())
+    } else {
+        Err(StartError::no_thread(alloc))
     }
 }
 
-/// Reads a configuration from `input`, and runs its node until a request stops it. Writes its log on `errors`, and nothing else.
+/// Reads a configuration from `input`, and runs its node until a request stops it. Writes why it can't be run to `errors`, and its log to
+/// `log`; a log that can't be written, or only slowly, holds nothing up.
 ///
-/// Ends with `Device` if a port can't be opened, a thread can't be started or the log can't be written. It opens all ports and starts
-/// all threads but the readers of connections before it connects to a peer, or takes a connection of one.
+/// Ends with `Device` if a port can't be opened or a thread can't be started; `errors` then has a line that says which, and why. It
+/// opens all ports and starts all threads but the readers of connections before it connects to a peer, or takes a connection of one.
 pub fn run<
-    N: Net<Listener = TcpListener, Stream = TcpStream> + Threads + Wait + Clock + Sync,
+    N: Net<Listener = TcpListener, Stream = TcpStream>
+        + Files
+        + Threads
+        + Wait
+        + Clock
+        + Sync
+        + Copy
+        + Send
+        + 'static,
     I: Read + Faults,
     E: Write + Faults,
->(rt: &N, alloc: Global, input: &mut I, errors: &mut E) -> Ending {
-    match configuration_of(alloc, input, errors) {
-        Ok(configuration) => run_node(rt, alloc, configuration, errors).said(alloc, errors),
-        Err(ending) => ending,
+    L: Write + Faults + Send + Drop + 'static,
+>(rt: &N, alloc: Global, input: &mut I, errors: &mut E, log: L) -> Ending
+where
+    N::File: Send + Sync,
+    N::Dir: Send + Sync,
+{
+    let mut input = Summed::new(input);
+    let configuration = match configuration_of(alloc, &mut input, errors) {
+        Ok(configuration) => configuration,
+        Err(ending) => return ending,
+    };
+    let Ok(checksum) = input.checksum(alloc) else {
+        return Ending::Memory.said(alloc, errors);
+    };
+    match run_node(rt, alloc, configuration, checksum.as_bytes(), log) {
+        Ok(()) => Ending::Done,
+        Err(error) => error.said(alloc, errors),
     }
 }

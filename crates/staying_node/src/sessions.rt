@@ -1,28 +1,33 @@
 //! A session with a peer, from its connection to its end.
 
+use crate::brought::Brought;
 use crate::clock::milliseconds;
+use crate::definitions::Comparison;
 use crate::ends::{end_of_closed, end_of_error};
 use crate::inbox::{Inbox, receive};
 use crate::intake::Intake;
 use crate::node::Node;
 use crate::outbox::Outbox;
 use crate::slot::Slot;
-use crate::status::{ResyncEnd, Totals};
+use crate::status::Totals;
 use crate::tables::{close, forget, forget_all, number_of, reopen};
-use admin_port::{PassedOver, PeerRole, PeerState, SessionEnd};
-use node_core::{Ticks, Traffic};
-use node_text::push_number;
+use admin_port::{PassedOver, PeerRole, PeerState};
+use node_core::{Failure, PeerEvent, ResyncEnd, SessionEnd, Ticks, Traffic};
 use peers_devices::Writes;
 use peers_engine::{AlwaysOpen, Outcome, Worker};
-use peers_hello::Hello;
+use peers_hello::{Hello, Status, read_status};
 use session_core::{Controls, Session, State};
-use std::net::{Shutdown, TcpStream};
-use std::sync::Wait;
+use std::alloc::AllocError;
+use std::net::{Shutdown, SocketAddr, TcpStream};
+use std::sync::{Arc, Wait};
 use std::thread;
 use std::thread::{Scope, Threads};
 use std::time::Clock;
 use table_shards::Seat;
-use table_types::{Memory, Moment, Name, Version};
+use table_types::{Memory, Moment, Name, Version, table_at};
+
+/// From when a session begins to when its turns push rows, in milliseconds, as the session's machine has it.
+const PUSHES: u64 = 300;
 
 /// A peer's place in a node that runs.
 #[derive(Drop)]
@@ -106,12 +111,18 @@ struct Work<'a, N> {
     up_to_date: bool,
     /// Whether the session's hello was over.
     begun: bool,
+    /// When it was, in milliseconds since the node began.
+    begun_at: u64,
+    /// Whether the node stops, and the turns that are idle are counted since the worker saw that.
+    stopping: bool,
     /// The control messages received before the last resync request, if it isn't answered.
     asking: Option<Controls>,
     /// The rows that were learned and taught before the resync that isn't over.
     rows: (u64, u64),
-    /// The rows that came so far, as far as the peer is said to have brought them.
-    brought: u64,
+    /// When the resyncs that aren't over began, in which the node is the learner and the teacher, in milliseconds since the node began.
+    since: (u64, u64),
+    /// What the peer had brought at the last look.
+    brought: Brought,
     /// Whether the session was teaching in a resync.
     teaching: bool,
     /// The turns in a row in which there was nothing to do.
@@ -121,6 +132,7 @@ struct Work<'a, N> {
     left: Vec<u64>,
     /// Whether the log says that a table was passed over.
     passes_over: bool,
+    comparison: Comparison,
 }
 
 impl<'a, N: Wait + Clock> Work<'a, N> {
@@ -150,14 +162,18 @@ impl<'a, N: Wait + Clock> Work<'a, N> {
             role,
             up_to_date: false,
             begun: false,
+            begun_at: 0,
+            stopping: false,
             asking: None,
             rows: (0, 0),
-            brought: 0,
+            since: (0, 0),
+            brought: Brought::nothing(),
             teaching: false,
             idle: 0,
             ticks: Ticks::new(node.clock.milliseconds(rt)),
             left: Vec::new(node.alloc),
             passes_over: false,
+            comparison: Comparison::new(),
         }
     }
 
@@ -198,12 +214,34 @@ impl<'a, N: Wait + Clock> Work<'a, N> {
                 .all(|table| table.left || table.taught == table.acknowledged)
     }
 
+    /// Returns whether the session has begun and its turns don't push yet.
+    fn is_young(&self) -> bool {
+        let now = self.node.clock.milliseconds(self.rt);
+        self.begun && now.saturating_sub(self.begun_at) < PUSHES
+    }
+
+    /// Returns whether the node stops and nothing is left to teach of what it has answered.
+    ///
+    /// A requester answers a change only if the node didn't stop yet when the row was in the table already. So the row was there before
+    /// this worker saw that the node stops. Only turns that came after that count as idle, and each of them looked at its table, under
+    /// the table's lock; so one of them would have found the row.
+    fn has_taught_all(&mut self) -> bool {
+        if !self.node.stops() || self.is_young() {
+            return false;
+        }
+        if !self.stopping {
+            self.stopping = true;
+            self.idle = 0;
+        }
+        self.is_settled()
+    }
+
     /// Returns why the worker ends the session, if it does: the peer has connected again, a table gets new numbers, or the node stops
     /// and nothing is left to teach.
-    fn interruption(&self) -> Option<SessionEnd> {
+    fn interruption(&mut self) -> Option<SessionEnd> {
         if self.slot.has_arrival(self.rt) {
             Some(SessionEnd::Replaced)
-        } else if self.node.is_paused() || (self.node.stops() && self.is_settled()) {
+        } else if self.node.is_paused() || self.has_taught_all() {
             Some(SessionEnd::End)
         } else {
             None
@@ -211,7 +249,7 @@ impl<'a, N: Wait + Clock> Work<'a, N> {
     }
 
     /// Returns why a session that is over ended, given what a turn or a tick of it came to.
-    fn last_end(&self, end: SessionEnd) -> SessionEnd {
+    fn last_end(&mut self, end: SessionEnd) -> SessionEnd {
         match self.interruption() {
             Some(interruption) => interruption,
             None if self.node.stops() => SessionEnd::End,
@@ -223,7 +261,7 @@ impl<'a, N: Wait + Clock> Work<'a, N> {
     fn note_traffic(&mut self) {
         let controls = self.worker.session.controls();
         let traffic = Traffic {
-            sent: self.writes.taken,
+            sent: self.writes.taken(),
             received: self.from.total,
             heartbeats: self
                 .worker
@@ -283,6 +321,7 @@ impl<'a, N: Wait + Clock> Work<'a, N> {
         );
         self.look_at_left();
         self.look_at_passed_over();
+        self.compare_definitions();
         self.report();
         for table in self.node.roster.tables() {
             forget(&mut self.worker.seat, table.id());
@@ -304,7 +343,7 @@ impl<'a, N: Wait + Clock> Work<'a, N> {
         self.look_at_rows();
         self.look_at_asking();
         self.catch_up();
-        if self.up_to_date || !self.is_next() {
+        if self.up_to_date || !self.ask_if_next() {
             return None;
         }
         self.begin_asking();
@@ -331,29 +370,21 @@ impl<'a, N: Wait + Clock> Work<'a, N> {
         }
         self.begun = true;
         let now = self.node.clock.milliseconds(self.rt);
+        self.begun_at = now;
         let version = self.worker.session.version();
         let mut status = self.slot.status(self.rt);
         status.begin(now, version);
         drop(status);
         self.node.catching_up.begin(self.rt, self.peer);
-        self.log(&[b"up", role_name(self.role).as_bytes()]);
+        self.log(PeerEvent::Connected {
+            accepted: self.role == PeerRole::Accept,
+            version: version.unwrap_or(Version::V21),
+        });
     }
 
     /// Adds a line about the peer to the log.
-    fn log(&self, words: &[&[u8]]) {
-        self.node.log_peer(self.rt, self.peer, words);
-    }
-
-    /// Adds a line about the peer to the log that ends with a number.
-    fn log_number(&self, words: &[&[u8]], number: u64) {
-        let mut digits = Vec::new(self.node.alloc);
-        let mut line = Vec::new(self.node.alloc);
-        if line.extend_from_slice(words).is_ok()
-            && push_number(&mut digits, number).is_ok()
-            && line.push(digits.as_slice()).is_ok()
-        {
-            self.log(line.as_slice());
-        }
+    fn log(&self, event: PeerEvent<'_>) {
+        self.node.log_peer_event(self.rt, self.peer, event);
     }
 
     /// Notes the state that the session is in.
@@ -367,6 +398,7 @@ impl<'a, N: Wait + Clock> Work<'a, N> {
         };
         let mut status = self.slot.status(self.rt);
         status.state = state;
+        status.teaches = self.teaching;
     }
 
     /// Notes whether the session has begun or ended a resync as the teacher.
@@ -379,7 +411,7 @@ impl<'a, N: Wait + Clock> Work<'a, N> {
         self.set_state();
         if teaching {
             self.rows.1 = self.worker.session.counts().taught;
-            self.log(&[b"resync", b"teacher", b"begun"]);
+            self.since.1 = self.node.clock.milliseconds(self.rt);
         } else {
             let left = self.worker.session.tables().iter().any(|table| table.left);
             self.end_teaching(if self.up_to_date && !left {
@@ -390,18 +422,31 @@ impl<'a, N: Wait + Clock> Work<'a, N> {
         }
     }
 
-    /// Adds a line to the log for each table that the session has left since the last tick.
+    /// Adds a line to the log for each table that the session has left. Those for which the log has no room come at a later tick.
     fn look_at_left(&mut self) {
         for index in 0..self.worker.session.tables().len() {
             let Some(tally) = self.worker.session.tables().get(index) else {
                 return;
             };
             let table = tally.table;
-            if tally.left && !self.left.contains(&table) {
+            if tally.left && !self.left.contains(&table) && self.log_left(table) {
                 let _noted = self.left.push(table);
-                self.log_number(&[b"left", b"table"], table);
             }
         }
+    }
+
+    /// Adds a line to the log about a table that the session has left, unless the log has no room for it. Returns whether it has.
+    fn log_left(&self, table: u64) -> bool {
+        let Some(definition) = table_at(self.node.roster.tables(), table) else {
+            return true;
+        };
+        let table = definition.name();
+        let event = PeerEvent::Left { table };
+        let has_room = self.node.log.has_room(self.rt, self.peer, &event);
+        if has_room {
+            self.log(event);
+        }
+        has_room
     }
 
     /// Notes how a resync ended in which the node was the teacher.
@@ -409,65 +454,73 @@ impl<'a, N: Wait + Clock> Work<'a, N> {
         let mut status = self.slot.status(self.rt);
         status.end_teaching(end);
         drop(status);
-        let rows = self
-            .worker
-            .session
-            .counts()
-            .taught
-            .saturating_sub(self.rows.1);
-        self.log_number(
-            &[b"resync", b"teacher", end.name().as_bytes(), b"rows"],
-            rows,
-        );
+        let now = self.node.clock.milliseconds(self.rt);
+        let taught = self.worker.session.counts().taught;
+        self.log(PeerEvent::ResyncEnded {
+            taught: true,
+            end,
+            rows: taught.saturating_sub(self.rows.1),
+            milliseconds: now.saturating_sub(self.since.1),
+        });
     }
 
-    /// Returns whether the peer is to be asked for all rows now, and notes that it is.
-    fn is_next(&self) -> bool {
+    /// Returns whether the peer is to be asked for all rows now, and notes that it was asked if so.
+    fn ask_if_next(&self) -> bool {
         let now = self.node.clock.milliseconds(self.rt);
         self.node.catching_up.asks(self.rt, self.peer, now)
     }
 
-    /// Notes that the peer has brought rows, if it has since the last look: learned ones, or such as are passed over.
+    /// Notes that the peer has brought something, if it has since the last look.
     fn look_at_rows(&mut self) {
-        let passed_over = self.passed_over();
-        let brought = (self.worker.session.counts().learned)
-            .saturating_add(passed_over.value)
-            .saturating_add(passed_over.slot)
-            .saturating_add(passed_over.data_type);
-        if brought == self.brought {
-            return;
-        }
-        self.brought = brought;
-        if self.asking.is_some() {
+        let before = self.brought;
+        self.brought = Brought::of(&self.worker.session, self.from.total);
+        if self.asking.is_some() && self.brought.is_more_than(before) {
             let now = self.node.clock.milliseconds(self.rt);
             self.node.catching_up.hear(self.rt, self.peer, now);
         }
     }
 
-    /// Notes that the session is asked for a resync.
+    /// Notes that the session is asked for a resync. One that was asked for before, and hasn't ended, goes on as the same one.
     fn begin_asking(&mut self) {
+        if self.asking.is_none() {
+            self.rows.0 = self.worker.session.counts().learned;
+            self.since.0 = self.node.clock.milliseconds(self.rt);
+        }
         self.asking = Some(self.worker.session.controls());
-        self.rows.0 = self.worker.session.counts().learned;
         self.set_state();
-        self.log(&[b"resync", b"learner", b"begun"]);
+        self.log(PeerEvent::Asked);
+    }
+
+    /// Compares what the peer has defined with this node's tables.
+    fn compare_definitions(&mut self) {
+        let place = Place {
+            rt: self.rt,
+            node: self.node,
+            slot: self.slot,
+            peer: self.peer,
+        };
+        if let Some(reader) = self.worker.session.reader() {
+            self.comparison.look(&place, reader);
+        }
     }
 
     /// Notes how a resync ended in which the node was the learner.
     fn end_learning(&mut self, end: ResyncEnd) {
         self.asking = None;
+        if end != ResyncEnd::Broken {
+            self.comparison.note_taught();
+        }
         let mut status = self.slot.status(self.rt);
         status.end_learning(end);
         drop(status);
-        let rows = self
-            .worker
-            .session
-            .counts()
-            .learned
-            .saturating_sub(self.rows.0);
-        self.log_number(
-            &[b"resync", b"learner", end.name().as_bytes(), b"rows"],
-            rows,
-        );
+        let now = self.node.clock.milliseconds(self.rt);
+        let learned = self.worker.session.counts().learned;
+        self.log(PeerEvent::ResyncEnded {
+            taught: false,
+            end,
+            rows: learned.saturating_sub(self.rows.0),
+            milliseconds: now.saturating_sub(self.since.0),
+        });
     }
 
     /// Notes whether the resync that the session was asked for is over.
@@ -496,7 +549,7 @@ impl<'a, N: Wait + Clock> Work<'a, N> {
             taught: self.worker.session.counts().taught,
             heartbeats_sent: self.worker.session.counts().heartbeats,
             heartbeats_received: self.worker.session.controls().heartbeats,
-            bytes_sent: self.writes.taken,
+            bytes_sent: self.writes.taken(),
             bytes_received: self.from.arrived(),
             passed_over: self.passed_over(),
         }
@@ -518,7 +571,7 @@ impl<'a, N: Wait + Clock> Work<'a, N> {
         let counts = self.worker.session.passed_over();
         if !self.passes_over && (counts.definition > 0 || counts.data_type > 0) {
             self.passes_over = true;
-            self.log(&[b"table", b"passed", b"over"]);
+            self.log(PeerEvent::PassedOver);
         }
     }
 
@@ -543,7 +596,9 @@ impl<'a, N: Wait + Clock> Work<'a, N> {
         let fault = self.fault();
         if let Some(fault) = fault {
             self.node.faults.count(self.rt, fault);
-            self.log(&[b"fault", fault.as_bytes()]);
+            self.log(PeerEvent::Fault {
+                fault: fault.as_bytes(),
+            });
         }
         end_of_closed(fault.is_some(), self.from.ended)
     }
@@ -563,24 +618,56 @@ impl<'a, N: Wait + Clock> Work<'a, N> {
         self.report();
         let now = self.node.clock.milliseconds(self.rt);
         let mut status = self.slot.status(self.rt);
+        let far = status.far;
         status.end(end, now);
         drop(status);
-        if self.begun {
-            self.log(&[b"down", end.name().as_bytes()]);
-        }
+        self.log_end(end, far);
     }
-}
 
-/// Returns the word for the end that connected.
-fn role_name(role: PeerRole) -> &'static str {
-    match role {
-        PeerRole::Connect => "connect",
-        PeerRole::Accept => "accept",
+    /// Adds a line to the log about the end of the connection with this far end, unless it is news of nothing: a session that didn't begin
+    /// ended as the one before, or for another connection.
+    fn log_end(&self, end: SessionEnd, far: Option<SocketAddr>) {
+        let (begun, status) = (self.begun, self.refusal());
+        if !begun {
+            let failure = match status {
+                Some(status) => Failure::Refused(status),
+                None => Failure::Ended(end),
+            };
+            if !self.is_attempt(end) || !self.slot.status(self.rt).fail(failure) {
+                return;
+            }
+        }
+        let event = match status {
+            Some(status) if !begun => PeerEvent::Refused {
+                status,
+                node: self.node.configuration.node.as_slice(),
+            },
+            _ => PeerEvent::Ended { begun, end },
+        };
+        self.node.log_peer_event_at(self.rt, self.peer, far, event);
+    }
+
+    /// Returns whether the connection that ended so was an attempt of this node that nobody gave up.
+    fn is_attempt(&self, end: SessionEnd) -> bool {
+        self.role == PeerRole::Connect
+            && end != SessionEnd::Replaced
+            && !self.node.stops()
+            && !self.node.is_paused()
+    }
+
+    /// Returns the status with which the peer refused this node's hello, if it did.
+    fn refusal(&self) -> Option<u16> {
+        match read_status(self.from.head()) {
+            Status::Code(code, _) if self.role == PeerRole::Connect && code != 200 => Some(code),
+            _ => None,
+        }
     }
 }
 
 /// Holds a session over a connection until it ends. Gives the seat back, and returns whether the session fell back: whether the peer
 /// refused version 2.1, which the node's hello said. While the session stands, its worker owns the seat.
+///
+/// The connection is noted first. So whoever ends all sessions either shuts it down, or is seen here to do so.
 pub(crate) fn hold<N: Threads + Wait + Clock + Sync>(
     place: &Place<'_, N>,
     mut seat: Seat,
@@ -589,42 +676,81 @@ pub(crate) fn hold<N: Threads + Wait + Clock + Sync>(
     let node = place.node;
     let number = number_of(place.peer);
     let mut fell_back = false;
-    if reopen(place.rt, node, &mut seat, number) {
-        if let Some(session) = standing_of(place, connection.role, connection.version) {
+    let Connection {
+        stream,
+        role,
+        version,
+        bytes,
+    } = connection;
+    let Ok(stream) = noted(place, stream) else {
+        give_up(place);
+        return (seat, false);
+    };
+    if node.stops() || node.is_paused() {
+        place.slot.set_present(place.rt, None);
+        return (seat, false);
+    }
+    let session = if reopen(place.rt, node, &mut seat, number) {
+        standing_of(place, role, version)
+    } else {
+        None
+    };
+    match session {
+        Some(session) => {
             let worker = Worker {
                 session,
                 seat,
                 number,
             };
-            let worker = hold_over(place, worker, connection);
+            let worker = hold_over(place, worker, &*stream, role, bytes);
             fell_back = worker.session.fell_back();
             seat = worker.seat;
         }
+        None => give_up(place),
     }
     close(place.rt, node, &mut seat, number);
+    place.slot.set_present(place.rt, None);
     (seat, fell_back)
+}
+
+/// Notes that the session over a connection couldn't begin, for want of memory or of a thread.
+fn give_up<N: Wait + Clock>(place: &Place<'_, N>) {
+    let (rt, node) = (place.rt, place.node);
+    let now = node.clock.milliseconds(rt);
+    let end = SessionEnd::Error;
+    let mut status = place.slot.status(rt);
+    status.end(end, now);
+    let is_news = status.fail(Failure::Ended(end));
+    drop(status);
+    if is_news {
+        node.log_peer_event(rt, place.peer, PeerEvent::Ended { begun: false, end });
+    }
+}
+
+/// Notes the connection of a session that is about to begin.
+fn noted<N: Wait>(place: &Place<'_, N>, stream: TcpStream) -> Result<Arc<TcpStream>, AllocError> {
+    let stream = Arc::new(place.node.alloc, stream)?;
+    place
+        .slot
+        .set_present(place.rt, Some(Arc::try_clone(&stream)?));
+    Ok(stream)
 }
 
 /// Holds a session that is open in each table over a connection. Gives its worker back.
 fn hold_over<N: Threads + Wait + Clock + Sync>(
     place: &Place<'_, N>,
     worker: Worker,
-    connection: Connection,
+    stream: &TcpStream,
+    role: PeerRole,
+    bytes: Vec<u8>,
 ) -> Worker {
     let (rt, node, slot) = (place.rt, place.node, place.slot);
-    let Connection {
-        stream,
-        role,
-        bytes,
-        ..
-    } = connection;
     let inbox = Inbox::new(bytes);
-    slot.set_present(rt, stream.try_clone().ok());
     let mut status = slot.status(rt);
-    status.connect(role);
+    status.connect(role, stream.peer_addr().ok());
     drop(status);
     let from = Intake::new(&*rt, &inbox);
-    let to = Outbox::new(&*rt, node.clock, &stream);
+    let to = Outbox::new(&*rt, node.clock, stream);
     let here = Place {
         rt: &*rt,
         node: &*node,
@@ -633,8 +759,7 @@ fn hold_over<N: Threads + Wait + Clock + Sync>(
     };
     let mut work = Work::new(here, role, from, to, worker);
     work.catch_up();
-    work_and_read(rt, &mut work, &stream, &inbox, slot);
-    slot.set_present(rt, None);
+    work_and_read(rt, &mut work, stream, &inbox, slot);
     let Work { worker, .. } = work;
     worker
 }
@@ -669,6 +794,14 @@ fn work_in<'s, 'a, E: 's, N: Threads + Wait + Clock + Sync>(
             let _shut = stream.shutdown(Shutdown::Both);
             reader.join(rt);
         }
-        Err(_) => work.end(SessionEnd::Error),
+        Err(_) => {
+            let place = Place {
+                rt: &*rt,
+                node: &*work.node,
+                slot: &*slot,
+                peer: work.peer,
+            };
+            give_up(&place);
+        }
     }
 }

@@ -1,11 +1,12 @@
 //! The place of a peer in the node.
 
 use crate::bell::Bell;
+use crate::definitions::SaidOfTables;
 use crate::status::PeerStatus;
 use std::alloc::Global;
 use std::mem;
 use std::net::{Shutdown, TcpStream};
-use std::sync::{Mutex, MutexGuard, Wait};
+use std::sync::{Arc, Mutex, MutexGuard, Wait};
 
 /// A connection that a door accepted.
 #[derive(Drop)]
@@ -34,8 +35,9 @@ pub(crate) struct Slot {
     pub(crate) bell: Bell,
     arrivals: Mutex<Arrivals>,
     /// The connection of the session that stands.
-    present: Mutex<Option<TcpStream>>,
+    present: Mutex<Option<Arc<TcpStream>>>,
     status: Mutex<PeerStatus>,
+    said_of_tables: Mutex<SaidOfTables>,
 }
 
 impl Slot {
@@ -49,6 +51,7 @@ impl Slot {
             }),
             present: Mutex::new(None),
             status: Mutex::new(PeerStatus::new(alloc)),
+            said_of_tables: Mutex::new(SaidOfTables::new(alloc)),
         }
     }
 
@@ -92,7 +95,7 @@ impl Slot {
     }
 
     /// Notes the connection of the session that stands, or that none does.
-    pub(crate) fn set_present<R: Wait>(&self, rt: &R, stream: Option<TcpStream>) {
+    pub(crate) fn set_present<R: Wait>(&self, rt: &R, stream: Option<Arc<TcpStream>>) {
         let mut present = self.present.lock(rt);
         let former = mem::replace(&mut *present, stream);
         drop(present);
@@ -116,5 +119,10 @@ impl Slot {
     /// Waits for the lock of what is known of the peer, and takes it.
     pub(crate) fn status<'a, R: Wait>(&'a self, rt: &R) -> MutexGuard<'a, PeerStatus> {
         self.status.lock(rt)
+    }
+
+    /// Waits for the lock of what the log has said of the peer's tables, and takes it.
+    pub(crate) fn said_of_tables<'a, R: Wait>(&'a self, rt: &R) -> MutexGuard<'a, SaidOfTables> {
+        self.said_of_tables.lock(rt)
     }
 }

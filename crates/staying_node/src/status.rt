@@ -1,9 +1,10 @@
 //! What is known of a peer, for those who ask.
 
-use admin_port::{PassedOver, PeerRole, PeerState, ResyncsEnded, SessionEnd, SessionsEnded};
-use node_core::rests_until;
+use admin_port::{PassedOver, PeerRole, PeerState, ResyncsEnded, SessionsEnded};
+use node_core::{Difference, Failure, LastError, Reaching, ResyncEnd, SessionEnd, rests_until};
 use session_core::TableTally;
 use std::alloc::{AllocError, Global};
+use std::net::SocketAddr;
 use table_types::Version;
 
 /// What sessions did, counted. A count that is full stays as it is.
@@ -63,32 +64,12 @@ impl Totals {
     }
 }
 
-/// How a resync ended.
-#[derive(Clone, Copy, Debug, PartialEq, Eq)]
-pub(crate) enum ResyncEnd {
-    /// All rows were taught.
-    Finished,
-    /// Not all rows were taught.
-    Partial,
-    /// The session ended first.
-    Broken,
-}
-
-impl ResyncEnd {
-    /// Returns the word for this end.
-    pub(crate) fn name(self) -> &'static str {
-        match self {
-            ResyncEnd::Finished => "finished",
-            ResyncEnd::Partial => "partial",
-            ResyncEnd::Broken => "broken",
-        }
-    }
-}
-
 /// What is known of a peer.
 #[derive(Drop)]
 pub(crate) struct PeerStatus {
     pub(crate) state: PeerState,
+    /// Whether a resync is under way in which the node is the teacher.
+    pub(crate) teaches: bool,
     /// Whether there is a connection.
     pub(crate) connected: bool,
     pub(crate) role: Option<PeerRole>,
@@ -101,12 +82,21 @@ pub(crate) struct PeerStatus {
     /// When the last three sessions ended by a fault, the latest first, in milliseconds since the node began.
     pub(crate) faulted: [Option<u64>; 3],
     pub(crate) last_end: Option<SessionEnd>,
+    /// The far end of the connection, if there is one.
+    pub(crate) far: Option<SocketAddr>,
+    /// What became of the attempts to have a session since the last one began.
+    reaching: Reaching,
+    /// Why there is no session, as far as it is known.
+    last_error: Option<LastError>,
     /// What the sessions that ended did.
     pub(crate) before: Totals,
     /// What the session that stands did.
     pub(crate) present: Totals,
     /// What the session that stands did in each table.
     pub(crate) tables: Vec<TableTally>,
+    /// What differs first between the node's definition of each table and the one that the peer has given on the session that stands, in
+    /// ascending order of id.
+    pub(crate) differences: Vec<Option<Difference>>,
     pub(crate) ended: SessionsEnded,
     pub(crate) resyncs_taught: ResyncsEnded,
     pub(crate) resyncs_learned: ResyncsEnded,
@@ -136,6 +126,7 @@ impl PeerStatus {
     pub(crate) fn new(alloc: Global) -> PeerStatus {
         PeerStatus {
             state: PeerState::Down,
+            teaches: false,
             connected: false,
             role: None,
             version: None,
@@ -144,9 +135,13 @@ impl PeerStatus {
             faults: 0,
             faulted: [None; 3],
             last_end: None,
+            far: None,
+            reaching: Reaching::new(),
+            last_error: None,
             before: Totals::none(),
             present: Totals::none(),
             tables: Vec::new(alloc),
+            differences: Vec::new(alloc),
             ended: SessionsEnded {
                 end: 0,
                 silent: 0,
@@ -160,6 +155,22 @@ impl PeerStatus {
         }
     }
 
+    /// Returns whether there is a session whose hello is over.
+    pub(crate) fn stands(&self) -> bool {
+        self.state != PeerState::Down
+    }
+
+    /// Returns what differs first between the node's definition of the table with this index and the peer's, if something does.
+    pub(crate) fn difference(&self, table: usize) -> Option<Difference> {
+        *self.differences.get(table)?
+    }
+
+    /// Returns how many tables the peer defines otherwise.
+    pub(crate) fn mismatched(&self) -> u64 {
+        let mismatched = self.differences.iter().filter(|table| table.is_some());
+        mismatched.count() as u64
+    }
+
     /// Returns what all sessions did.
     pub(crate) fn totals(&self) -> Totals {
         self.before.plus(self.present)
@@ -170,9 +181,39 @@ impl PeerStatus {
         rests_until(self.faulted[0], self.faulted[2])
     }
 
-    /// Notes that a connection is there.
-    pub(crate) fn connect(&mut self, role: PeerRole) {
+    /// Notes that the node tries to connect. Returns whether that is news.
+    pub(crate) fn attempt(&mut self) -> bool {
+        self.reaching.attempt()
+    }
+
+    /// Notes that an attempt of the node to have a session failed. Returns whether that is news.
+    pub(crate) fn fail(&mut self, failure: Failure) -> bool {
+        let news = self.reaching.fail(failure);
+        if !matches!(failure, Failure::Ended(_)) {
+            self.last_error = self.reaching.last_error();
+        }
+        news
+    }
+
+    /// Notes that a hello of the peer was refused with this status. Returns whether that is news. It is no reason why there is no session
+    /// while one stands, nor later, when an attempt ends before its status.
+    pub(crate) fn refuse(&mut self, status: u16) -> bool {
+        let news = self.reaching.refuse(status);
+        if self.state == PeerState::Down {
+            self.last_error = self.reaching.last_error();
+        }
+        news
+    }
+
+    /// Returns why there is no session, as far as it is known.
+    pub(crate) fn last_error(&self) -> Option<LastError> {
+        self.last_error
+    }
+
+    /// Notes that a connection is there, and its far end.
+    pub(crate) fn connect(&mut self, role: PeerRole, far: Option<SocketAddr>) {
         self.connected = true;
+        self.far = far;
         self.role = Some(role);
         self.present = Totals::none();
     }
@@ -181,6 +222,8 @@ impl PeerStatus {
     pub(crate) fn begin(&mut self, now: u64, version: Option<Version>) {
         self.since = now;
         self.version = version;
+        self.reaching = Reaching::new();
+        self.last_error = None;
         self.sessions = self.sessions.saturating_add(1);
         self.state = PeerState::Ready;
     }
@@ -208,14 +251,17 @@ impl PeerStatus {
 
     /// Notes that the connection ended, and counts that, unless it was given up before a session began.
     pub(crate) fn end(&mut self, end: SessionEnd, now: u64) {
-        let begun = self.state != PeerState::Down;
+        let begun = self.stands();
         self.state = PeerState::Down;
+        self.teaches = false;
         self.connected = false;
+        self.far = None;
         self.role = None;
         self.version = None;
         self.before = self.before.plus(self.present);
         self.present = Totals::none();
         self.tables.clear();
+        self.differences.clear();
         if begun || end != SessionEnd::Replaced {
             self.count(end, now);
         }

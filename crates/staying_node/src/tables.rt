@@ -4,12 +4,13 @@ ghost use Rattle.std.specs.Prelude.{◌≡◌};
 ghost use Rattle.staying_node.specs.Renewals.{Renews, is_spent};
 
 use crate::node::Node;
+use node_core::{Event, Renewal, Renewing};
 use std::sync::{MutexGuard, Wait};
 use std::time::Clock;
-use table_cell::TableCell;
+use table_cell::{CloseError, TableCell};
 use table_shards::held::lent;
-use table_shards::{Locked, Seat};
-use table_types::{Moment, Version};
+use table_shards::{Locked, Seat, ShardError};
+use table_types::{Moment, TableDef, Version};
 
 /// A history with this many events slides, and a seat with this many receipts of a table drops them.
 pub(crate) const MANY: u64 = 1_024;
@@ -45,7 +46,7 @@ fn history(cell: &TableCell) -> u64 {
 }
 
 /// Drops the history of a table if it is long, but for the latest batch of each session. Returns whether it was long.
-pub(crate) fn slide(locked: &mut Locked, seat: &Seat, table: u64) -> bool {
+pub(crate) fn slide(locked: &mut Locked, seat: &mut Seat, table: u64) -> bool {
     let long = history(locked.cell()) >= MANY;
     if long {
         let _dropped = lent::slide(locked, seat, table);
@@ -77,7 +78,7 @@ fn is_spent(locked: &Locked) -> bool
 /// Gives a table new numbers if its next one is `RENEWAL` or more. Returns whether that has still to be done, since a session is open in
 /// the table or memory ran out.
 #[tactic(auto, using(crate::proofs::RenewalLaws::renews, crate::proofs::RenewalLaws::waits))]
-fn renumber(locked: &mut Locked, seat: &Seat, table: u64) -> bool
+fn renumber(locked: &mut Locked, seat: &mut Seat, table: u64) -> bool
     ensures { Renews locked.old result locked.new }
 {
     if !is_spent(locked) {
@@ -100,10 +101,46 @@ fn purge(locked: &mut Locked, seat: &mut Seat, table: u64, now: Moment) {
     }
 }
 
+/// Gives a table new numbers once most are assigned. Returns whether that has still to be done: no session may be open in the table, so
+/// those are closed whose peers have no connection, since they couldn't be closed when they ended.
+fn renew<R: Wait + Clock>(
+    rt: &R,
+    node: &Node,
+    locked: &mut Locked,
+    seat: &mut Seat,
+    table: &TableDef,
+) -> bool {
+    let id = table.id();
+    if !is_spent(locked) {
+        return false;
+    }
+    if renumber(locked, seat, id) {
+        for (peer, slot) in node.slots.iter().enumerate() {
+            if !slot.has_session(rt) {
+                let _closed = close_in(locked, seat, id, number_of(peer));
+            }
+        }
+        return true;
+    }
+    node.log_event(
+        rt,
+        Event::Renewed {
+            table: table.name(),
+        },
+    );
+    false
+}
+
 /// Drops what is no longer needed of each table's history, and the rows that have ended if `purges`. Gives a table new numbers once most
-/// are assigned, for which all sessions end. Returns whether it is to be called again soon: a history was long, or a table has still
-/// to get new numbers.
-pub(crate) fn keep<R: Wait + Clock>(rt: &R, node: &Node, seat: &mut Seat, purges: bool) -> bool {
+/// are assigned, for which all sessions end, but not for long. Returns whether it is to be called again soon: a history was long, or a
+/// table is about to get new numbers.
+pub(crate) fn keep<R: Wait + Clock>(
+    rt: &R,
+    node: &Node,
+    seat: &mut Seat,
+    renewal: &mut Renewal,
+    purges: bool,
+) -> bool {
     let now = node.clock.now(rt);
     let mut long = false;
     let mut waits = false;
@@ -114,20 +151,35 @@ pub(crate) fn keep<R: Wait + Clock>(rt: &R, node: &Node, seat: &mut Seat, purges
             if purges {
                 purge(&mut locked, seat, id, now);
             }
-            waits = renumber(&mut locked, seat, id) || waits;
+            waits = renew(rt, node, &mut locked, seat, table) || waits;
         }
     }
     forget_all(node, seat);
-    node.set_paused(rt, waits);
-    long || waits
+    let pauses = renewal.look(waits, node.clock.milliseconds(rt)) == Renewing::Pause;
+    node.set_paused(rt, pauses);
+    long || pauses
 }
 
-/// Closes a session in each table.
+/// Closes a session in a table. If there is no room for that in memory or in the table's history, drops what is no longer needed and tries
+/// again. Returns whether the session isn't open.
+fn close_in(locked: &mut Locked, seat: &mut Seat, table: u64, session: u32) -> bool {
+    match lent::close_session(locked, seat, table, session) {
+        Ok(()) | Err(ShardError::Cell(CloseError::NoSession)) => true,
+        Err(_) => {
+            seat.forget(table);
+            let _dropped = lent::slide(locked, seat, table);
+            lent::close_session(locked, seat, table, session).is_ok()
+        }
+    }
+}
+
+/// Closes a session in each table. If memory runs out, the session stays open in that table until the peer's next session begins, or until
+/// the thread that keeps the tables gives the table new numbers.
 pub(crate) fn close<R: Wait>(rt: &R, node: &Node, seat: &mut Seat, session: u32) {
     for table in node.roster.tables() {
         let id = table.id();
         if let Some(mut locked) = lock(rt, node, id) {
-            let _closed = lent::close_session(&mut locked, seat, id, session);
+            let _closed = close_in(&mut locked, seat, id, session);
         }
     }
 }

@@ -12,6 +12,7 @@ pub mod StepLaws
 pub mod RefusalLaws
 pub mod UnackedLaws
 pub mod ReachLaws
+pub mod PendingLaws
 pub mod LiveLaws
 pub mod SomeStep
 pub mod BatchLaws

@@ -8,6 +8,7 @@ pub mod Parts
 pub mod Histories
 pub mod Cells
 pub mod Pasts
+pub mod Pending
 pub mod Handing
 pub mod Renumbering
 pub mod Standing

@@ -22,7 +22,7 @@ use table_types::{
 };
 
 /// Returns whether a copy of `kind` at `now`, for a session with this `bound`, includes the row.
-fn is_chosen(kind: CopyKind, bound: u32, row: &Row, now: Moment) -> bool
+pub(crate) fn is_chosen(kind: CopyKind, bound: u32, row: &Row, now: Moment) -> bool
     ensures { result ≡ (is_in_reach kind bound row.now && (is_copied kind row.now && is_live now row.now)) }
 {
     let is_copied = match kind {

@@ -78,7 +78,8 @@ impl Table {
     /// Returns the number above which a copy of `kind` at `now` has to look if `number` is acknowledged: it includes no row
     /// in between.
     pub(crate) fn copy_start(&self, kind: CopyKind, number: u32, now: Moment) -> u32
-        ensures { filter (is_unacked kind number now) self.now.rows ≡ filter (is_unacked kind result now) self.now.rows }
+        ensures same { filter (is_unacked kind number now) self.now.rows ≡ filter (is_unacked kind result now) self.now.rows }
+        ensures onward { number ≤ result }
     {
         let LearnedRun { after, last, since } = self.learned_run;
         match kind {

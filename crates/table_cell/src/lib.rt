@@ -18,6 +18,7 @@ mod laws;
 mod learned_run;
 mod origin;
 mod past;
+mod pending;
 mod progress;
 mod refusals;
 mod renumbering;
@@ -42,5 +43,7 @@ pub use laws::{
     a_step_exists, a_step_is_unique, a_table_stays_sound, batches_are_kept,
     what_is_copied_is_a_batch, what_settles_is_the_latest,
 };
+pub use pending::Pending;
+pub use progress::Progress;
 pub use standing::{standing_resyncs_end, what_is_left_shrinks};
 pub use table_types::{CopyKind, Settled};

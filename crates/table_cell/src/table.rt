@@ -28,6 +28,8 @@ pub(crate) struct Table {
     pub(crate) latest: Moment,
     pub(crate) sessions: Vec<(u32, Progress)>,
     pub(crate) learned_run: LearnedRun,
+    /// How many rows new ones have displaced.
+    displaced: u64,
 }
 
 impl Model for Table {
@@ -66,7 +68,13 @@ impl Table {
                 last: first - 1,
                 since: Moment::least(),
             },
+            displaced: 0,
         }
+    }
+
+    /// Returns how many rows new ones have displaced.
+    pub(crate) fn displaced(&self) -> u64 {
+        self.displaced
     }
 
     /// Returns the table's allocator.
@@ -261,8 +269,10 @@ impl Table {
         ensures stays { OnErr result (self.new ≡ self.old) }
     {
         let leaving = self.leaving()?;
+        let displaces = self.displaces(&key);
         let learned_run = self.run_with(&row);
         self.stock.put(key, row, leaving)?;
+        self.displaced = self.displaced.saturating_add(u64::from(displaces));
         self.learned_run = learned_run;
         self.latest = now;
         Ok(())

@@ -9,7 +9,7 @@ const LONGEST: &[u8] = &[b'x'; 512];
 
 const TOO_LONG: &[u8] = &[b'x'; 513];
 
-static HELLOS: [(&[u8], Answered); 28] = [
+static HELLOS: [(&[u8], Answered); 30] = [
     (b"HAProxyS 2.2\nc\na 1 1\n", Answered::Refused(502, 21)),
     (b"HAProxyS 2.0\nc\na 1 1\n", Answered::Refused(503, 21)),
     (b"HAProxyS 2.1\nc\na 1 1\n", Answered::Refused(503, 21)),
@@ -56,6 +56,8 @@ static HELLOS: [(&[u8], Answered); 28] = [
     (b"HAProxyS 2.1\nb\na 1 x\n", Answered::Refused(501, 21)),
     // The first refusal that applies.
     (b"HAProxyS 2.0\nc\nz 1\n", Answered::Refused(501, 19)),
+    (b"HAProxyS 2.2\nb\na 1\n", Answered::Refused(501, 19)),
+    (b"HAProxyS 2.2\nc\nz 1 1\n", Answered::Refused(502, 21)),
 ];
 
 #[test]

@@ -5,7 +5,9 @@ use session_core::{SessionError, State};
 use table_types::{DataType, KeyKind, Value, Version};
 use tests_play_data::parts::{KeyParts, T1, T2, TableParts, UpdateParts};
 use tests_play_nodes::tables::{Role, Tables};
-use tests_play_nodes::turns::{Exchange, Story, comes_true_ahead, first_failing, last_opened_with};
+use tests_play_nodes::turns::{
+    Exchange, Story, comes_true_ahead, first_failing, last_opened_with, writes_once,
+};
 
 /// The hello of `a` to `b`.
 const HELLO: &[u8] = b"HAProxyS 2.1\nb\na 1 1\n";
@@ -335,6 +337,12 @@ fn lessons_of_version_20(rt: HostRuntime) {
         first_failing(&rt, rt.alloc(), &TEACHES_IN_VERSION_20),
         None
     );
+}
+
+/// A HAProxy that gets a hello in pieces doesn't take its version, so it goes out in one write.
+#[test]
+fn hello_at_once(rt: HostRuntime) {
+    assert!(rt; writes_once(&rt, rt.alloc(), &EMPTY, Role::Connects, HELLO.len()));
 }
 
 /// `b` accepts the hello and the request, and is about to teach its rows.

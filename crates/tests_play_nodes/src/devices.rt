@@ -113,33 +113,34 @@ fn is_written((device, expected, calls): &Writing) -> bool {
     }
 }
 
-/// Returns whether the counts are those of a write of `abc` that returned `expected`.
-fn are_counted(writes: &Writes, expected: &Result<(), WriteError>) -> bool {
+/// Returns whether these counts, and a device's count of failures, are those of a write of `abc` that returned `expected`.
+fn are_counted(writes: &Writes, failures: u64, expected: &Result<(), WriteError>) -> bool {
     let (taken, failed, stuck) = match expected {
         Ok(()) => (3, false, false),
         Err(WriteError::Failed { sent }) => (*sent as u64, true, false),
         Err(WriteError::Stuck { sent }) => (*sent as u64, false, true),
     };
-    let wears_out = writes.idle > 0 || writes.retried > 1_000_000;
-    writes.taken == taken && (writes.failed > 0) == failed && wears_out == stuck
+    let wears_out = writes.idle() > 0 || writes.retried() > 1_000_000;
+    writes.taken() == taken && (failures > 0) == failed && wears_out == stuck
 }
 
 /// Returns whether `abc` is written to the device, and its writes are counted.
 fn is_written_counted((device, expected, calls): &Writing) -> bool {
     let mut writes = Writes::none();
-    let is_written = match device {
+    match device {
         Device::Counted(bytes, then) => {
             let mut narrow = Counting::new(Narrow::new(*bytes, *then));
-            write_all_counted(&mut narrow, &mut writes, b"abc") == *expected
+            write_all_counted(&mut narrow, &mut writes, 0, b"abc") == *expected
+                && are_counted(&writes, narrow.failures(), expected)
                 && narrow.into_inner().calls == *calls
         }
         Device::Uncounted(bytes, then) => {
             let mut uncounted = Uncounted::new(*bytes, *then);
-            write_all_counted(&mut uncounted, &mut writes, b"abc") == *expected
+            write_all_counted(&mut uncounted, &mut writes, 0, b"abc") == *expected
+                && are_counted(&writes, uncounted.failures(), expected)
                 && uncounted.device.calls == *calls
         }
-    };
-    is_written && are_counted(&writes, expected)
+    }
 }
 
 /// Writes to each device. Returns the index of the first that fails.

@@ -1,7 +1,9 @@
 //! Devices that fail after some calls, for tests of other crates.
 
 use peers_devices::{Counting, Faults, Writes};
-use peers_engine::{Fused, PiecesError, WriteFault, write_lesson, write_pieces};
+use peers_engine::{
+    Fused, PiecesError, WriteFault, write_lesson, write_pieces, write_pieces_counted,
+};
 use std::alloc::Global;
 use std::io::Read;
 use table_types::Batch;
@@ -50,9 +52,19 @@ fn is_written_in_pieces(alloc: Global, row: &InPieces) -> Option<bool> {
     let batch = Batch::new(alloc, known.roster(), updates(alloc, row.updates)?).ok()?;
     let pieces = Pieces::new(alloc, &known, &batch).ok()?;
     let mut output = Counting::new(Fused::new(Vec::new(alloc), row.room));
-    let error = write_pieces(alloc, &mut output, &mut Writes::none(), pieces).err();
+    let error = write_pieces(alloc, &mut output, pieces).err();
     let bytes = output.into_inner().into_inner();
-    Some(error == row.error && bytes.len() == row.count && bytes.starts_with(row.first))
+    let pieces = Pieces::new(alloc, &known, &batch).ok()?;
+    let mut writes = Writes::none();
+    let mut counted = Counting::new(Fused::new(Vec::new(alloc), row.room));
+    let counted_error = write_pieces_counted(alloc, &mut counted, &mut writes, 0, pieces).err();
+    Some(
+        error == row.error
+            && counted_error == row.error
+            && writes.taken() == row.count as u64
+            && bytes.len() == row.count
+            && bytes.starts_with(row.first),
+    )
 }
 
 /// Writes the lessons in pieces. Returns the index of the first that fails.

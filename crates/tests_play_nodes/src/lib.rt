@@ -24,6 +24,7 @@ pub mod staying;
 pub mod tables;
 pub mod turns;
 mod waiting;
+mod whole;
 pub mod workers;
 pub mod worlds;
 

@@ -167,7 +167,7 @@ impl Stayer {
     pub(crate) fn tidy<H: Wait>(&mut self, rt: &H) -> Option<()> {
         let mut locked = self.shards.cell(1)?.lock(rt);
         if history(locked.cell()) >= 1_024 {
-            lent::slide(&mut locked, &self.tracker, 1).ok()?;
+            lent::slide(&mut locked, &mut self.tracker, 1).ok()?;
         }
         self.tracker.forget(1);
         self.worker.seat.forget(1);

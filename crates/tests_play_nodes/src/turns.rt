@@ -3,6 +3,7 @@
 use crate::sides::{Side, rows};
 use crate::tables::{Role, Tables};
 use crate::waiting::Waiting;
+use crate::whole::Whole;
 use node_commands::track_all;
 use peers_devices::{Counting, Faults};
 use peers_engine::{AlwaysOpen, EngineError, Turned};
@@ -50,6 +51,24 @@ pub(crate) fn goes_so<H: Wait, R: Read + Faults>(
 /// Returns whether a turn goes as it says.
 pub(crate) fn is_so<H: Wait>(rt: &H, alloc: Global, side: &mut Side, turn: &Exchange) -> bool {
     goes_so(rt, alloc, side, &mut Waiting::new(turn.comes), turn)
+}
+
+/// Takes the first turn of a side, which finds nothing to read. Returns whether it makes one write, of so many bytes.
+pub fn writes_once<H: Wait>(
+    rt: &H,
+    alloc: Global,
+    tables: &Tables,
+    role: Role,
+    length: usize,
+) -> bool {
+    let Some(mut side) = tables.side(alloc, role) else {
+        return false;
+    };
+    let mut input = Waiting::new(b"");
+    let mut output = Counting::new(Whole::new());
+    let turned = side.take_turn(rt, alloc, &mut input, &mut output, &AlwaysOpen);
+    let whole = output.into_inner();
+    turned == Ok(Turned::Going) && whole.writes == 1 && whole.bytes == length
 }
 
 /// Returns whether turns go as they say.

@@ -87,13 +87,14 @@ fn is_latest(locked: &mut Locked, seat: &mut Seat) -> Option<bool> {
     }
 }
 
-/// Makes the calls one after another. Returns whether each leaves the seat as it should.
+/// Makes the calls one after another. Returns whether each leaves the seat as it should, and three were refused.
 fn are_kept(alloc: Global, locked: &mut Locked, seat: &mut Seat) -> Option<bool> {
     let opened = opens(locked, seat) && has_nothing(locked, seat);
     let refused = is_ahead(locked, seat) && tracks(locked, seat);
     let full = is_full(locked, seat, ninth(alloc)?);
     let latest = is_latest(locked, seat)?;
-    Some(opened && refused && full && latest && seat.receipts(1).len() == 3)
+    let left = seat.receipts(1).len() == 3 && seat.refused() == 3;
+    Some(opened && refused && full && latest && left)
 }
 
 /// Makes `t1`, which purges none, with room for one row.
@@ -101,7 +102,7 @@ fn narrow(alloc: Global) -> Option<TableCell> {
     TableCell::new(alloc, definition(alloc, &T1)?, 1, true, 1).ok()
 }
 
-/// Returns whether a seat keeps the latest answer that made no event.
+/// Returns whether a seat keeps the latest answer that made no event, and counts the calls that were refused.
 pub fn keeps_answers<R: Wait>(rt: &R, alloc: Global) -> Option<bool> {
     let tables = vec![in alloc; narrow(alloc)?].ok()?;
     let (shards, mut seats) = Shards::new(alloc, tables, 1).ok()?;

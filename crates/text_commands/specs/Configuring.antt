@@ -4,8 +4,10 @@ use Rattle.std.specs.Io.KnownBytes.{Appends}
 use Rattle.admin_text.specs.Configurations.{IsConfiguration}
 use Rattle.admin_text.specs.Refusals.{IsFaultless, IsRefusalOf, names_fault}
 use Rattle.admin_text.specs.Statements.{statements_of}
+use Rattle.admin_text.specs.Warnings.{AreWarningsOf}
 use Rattle.admin_text.specs.declared.configurations.Configuration.{Configuration}
 use Rattle.admin_text.specs.declared.refusals.Refusal.{Refusal}
+use Rattle.admin_text.specs.declared.warnings.Warnings.{Warnings}
 use Rattle.text_commands.specs.Endings.{line_of}
 use Rattle.text_commands.specs.declared.endings.Ending.{Ending}
 use Rattle.text_commands.specs.declared.endings.Ending.TheVariants as endings
@@ -27,6 +29,16 @@ IsInput (Some bytes) text = text ≡ bytes
 abbrev pub IsTaken : Option (List ℕ) → Type 0
 IsTaken input = (text : List ℕ) × IsInput input text × IsFaultless (statements_of text)
 
+-- it is one, and these lines warn of what in it is surely meant otherwise
+abbrev pub IsWarned : Option (List ℕ) → List ℕ → Type 0
+IsWarned input said =
+    (text : List ℕ)
+    × (warnings : Warnings)
+    × IsInput input text
+    × IsFaultless (statements_of text)
+    × AreWarningsOf (statements_of text) warnings
+    × (said ≡ warnings.said.items)
+
 -- a line of the input is refused or lacks, and these lines say what is wrong with it
 abbrev pub IsRefused : Option (List ℕ) → List ℕ → Type 0
 IsRefused input said =
@@ -37,9 +49,9 @@ IsRefused input said =
     × (names_fault refusal ≡ true)
     × (said ≡ refusal.said.items)
 
--- what an ending has written: nothing if the input is taken, the lines of what is wrong with it, or the line of the ending
+-- what an ending has written: the warnings if the input is taken, the lines of what is wrong with it, or the line of the ending
 abbrev pub IsSaid : Option (List ℕ) → Option (List ℕ) → Option (List ℕ) → Ending → Type 0
-IsSaid input before after endings.Done = IsTaken input × (after ≡ before)
+IsSaid input before after endings.Done = (said : List ℕ) × IsWarned input said × Appends before after said
 IsSaid input before after endings.Configuration = (said : List ℕ) × IsRefused input said × Appends before after said
 IsSaid input before after endings.Device = Unit {0}
 IsSaid input before after ending = Appends before after (line_of ending)

@@ -5,13 +5,13 @@ ghost use Rattle.admin_text.specs.Configurations.{IsConfiguration};
 ghost use Rattle.text_commands.specs.Configuring.{EndsConfiguration, IsSaid, IsTaken};
 
 use crate::endings::Ending;
-use admin_text::{Configuration, ConfigurationError, Refusal, read_configuration};
+use admin_text::{Configuration, ConfigurationError, checked_configuration, read_configuration};
 use peers_devices::{Faults, read_to_end, write_all};
 use std::alloc::Global;
 use std::io::{Read, Write};
 
 /// Reads a configuration, and ends with `Done` if a node can be run with it. It opens nothing, and writes only to `errors`: the lines
-/// that say why a configuration is refused.
+/// that say why a configuration is refused, or what in one that isn't is surely meant otherwise.
 pub fn check_configuration<R: Read + Faults, E: Write + Faults>(
     alloc: Global,
     input: &mut R,
@@ -20,11 +20,20 @@ pub fn check_configuration<R: Read + Faults, E: Write + Faults>(
     ensures ends { EndsConfiguration result }
     ensures said { IsSaid (R.remaining input.old) (E.contents errors.old) (E.contents errors.new) result }
 {
-    match configuration_of(alloc, input, errors) {
-        Ok(configuration) => drop(configuration),
-        Err(ending) => return ending,
+    let text = match read_to_end(alloc, input) {
+        Ok(text) => text,
+        Err(error) => return Ending::from(error).said(alloc, errors),
+    };
+    match checked_configuration(alloc, text.as_slice()) {
+        Ok((configuration, warnings)) => {
+            drop(configuration);
+            said(errors, warnings.said.as_slice(), Ending::Done)
+        }
+        Err(ConfigurationError::Refused(refusal)) => {
+            said(errors, refusal.said.as_slice(), Ending::Configuration)
+        }
+        Err(ConfigurationError::Memory) => Ending::Memory.said(alloc, errors),
     }
-    Ending::Done
 }
 
 /// Returns the configuration that `input` has, or how the subcommand ends without one. Then `errors` has the lines that say why.
@@ -45,18 +54,22 @@ pub fn configuration_of<R: Read + Faults, E: Write + Faults>(
     };
     match read_configuration(alloc, text.as_slice()) {
         Ok(configuration) => Ok(configuration),
-        Err(ConfigurationError::Refused(refusal)) => Err(refused(errors, &refusal)),
+        Err(ConfigurationError::Refused(refusal)) => Err(said(
+            errors,
+            refusal.said.as_slice(),
+            Ending::Configuration,
+        )),
         Err(ConfigurationError::Memory) => Err(Ending::Memory.said(alloc, errors)),
     }
 }
 
-/// Writes the lines of a refusal to `errors`.
-fn refused<E: Write + Faults>(errors: &mut E, refusal: &Refusal) -> Ending
-    ensures ends { (result ≡ Ending.Configuration) ⊎ (result ≡ Ending.Device) }
-    ensures said { result ≢ Ending.Device → Appends (E.contents errors.old) (E.contents errors.new) refusal.now.said.items }
+/// Writes lines to `errors`, and returns this ending, or `Device` if the writer failed.
+fn said<E: Write + Faults>(errors: &mut E, lines: &[u8], ending: Ending) -> Ending
+    ensures ends { (result ≡ ending) ⊎ (result ≡ Ending.Device) }
+    ensures said { result ≢ Ending.Device → Appends (E.contents errors.old) (E.contents errors.new) lines.now }
 {
-    match write_all(errors, refusal.said.as_slice()) {
-        Ok(()) => Ending::Configuration,
+    match write_all(errors, lines) {
+        Ok(()) => ending,
         Err(_) => Ending::Device,
     }
 }

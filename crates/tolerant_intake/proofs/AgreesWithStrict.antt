@@ -33,7 +33,7 @@ use Rattle.tolerant_intake.specs.Tolerance.{Tolerance, counted_for, is_further, 
 use Rattle.tolerant_intake.specs.Policy.{Passage, Strict, Defines, Counts, StandsIn, Unnumbered, Breaks, IsFurther, numbered, of_bad_values, of_breach, of_loose_definition, of_read, of_values, passage_of, passed, writes}
 use Rattle.tolerant_intake.specs.Planning.{passage_for}
 use Rattle.tolerant_intake.specs.Reading.{AreRead, Reads, ReadsAs}
-use Rattle.tolerant_intake.specs.Agreement.{AreReadToo, IsListed}
+use Rattle.tolerant_intake.specs.Agreement.{AreReadToo, CountsAs}
 use Rattle.tolerant_intake.proofs.FrontRead.{bodied, faulty_front, none_front, none_loose, takes_so, unloosed, whole_front}
 use Rattle.tolerant_intake.proofs.ReadingGoesOn.{passes_so, given_no_memory}
 use Rattle.tolerant_intake.proofs.RefusedUpdates.{empty_update, unnumbered}
@@ -100,14 +100,27 @@ waits_too l t e none (is_open, at, is) =
 
 -- ---- faults
 
+-- what may become of a message at which the strict intake stops with this fault
+abbrev StandsOrBreaks : Passage → Type 0
+StandsOrBreaks (StandsIn d) = Unit {0}
+StandsOrBreaks (Breaks breaches.SizeLimit) = Unit {0}
+StandsOrBreaks p = ⊥
+
+abbrev pub Lists : Fault → Passage → Type 0
+Lists faults.EmptySlot p = CountsAs causes.Slot p
+Lists (faults.Breach breaches.BadValue) p = CountsAs causes.Value p
+Lists (faults.Breach breaches.UnknownDataType) p = StandsOrBreaks p
+Lists (faults.Breach breaches.BadDefinition) p = StandsOrBreaks p
+Lists fault p = ⊥
+
 abbrev IsEither : Fault → Passage → Type 0
-IsEither fault p = (p ≡ Strict) ⊎ IsListed fault p
+IsEither fault p = (p ≡ Strict) ⊎ Lists fault p
 
 by_number : (number : Option (ℕ × ℕ)) (field : NameField) → writes field ≡ false → IsEither (faults.Breach breaches.BadValue) (passed number field (Some causes.Value) Strict)
 by_number None field silent = inl refl
-by_number (Some n) names.NotStored silent = inr refl
-by_number (Some n) names.NoName silent = inr refl
-by_number (Some n) (names.Held slot) silent = inr refl
+by_number (Some n) names.NotStored silent = inr (refl, refl)
+by_number (Some n) names.NoName silent = inr (refl, refl)
+by_number (Some n) (names.Held slot) silent = inr (refl, refl)
 by_number (Some n) (names.Written slot name) silent = absurd cc
 
 by_values : (s : State) (read : Result LooseUpdate Breach) → IsEither (faults.Breach breaches.BadValue) (of_values s read)
@@ -127,14 +140,14 @@ by_bad_values s with_number timed body None = inl refl
 by_bad_values s with_number timed body (Some d) = by_values s (loose_update_at (number_of d.kind) d.key_length d.types with_number timed body)
 
 -- a definition that can be read loosely, if a fault lists both what becomes of it
-pub definition_listed : (fault : Fault) (s : State) (d : LooseDefinition) → IsListed fault (StandsIn d) → IsListed fault (Breaks breaches.SizeLimit) → IsListed fault (of_loose_definition s (Ok d))
+definition_listed : (fault : Fault) (s : State) (d : LooseDefinition) → Lists fault (StandsIn d) → Lists fault (Breaks breaches.SizeLimit) → Lists fault (of_loose_definition s (Ok d))
 definition_listed fault s d stands breaks = elim (cases_Bool (is_further s.received d.id)) [
   | inl further ↦
       let is : of_loose_definition s (Ok d) ≡ Breaks breaches.SizeLimit = rw further refl in
-      subst (IsListed fault) (sym is) breaks
+      subst (Lists fault) (sym is) breaks
   | inr known ↦
       let is : of_loose_definition s (Ok d) ≡ StandsIn d = rw known refl in
-      subst (IsListed fault) (sym is) stands
+      subst (Lists fault) (sym is) stands
 ]
 
 unknown_type : (s : State) (read : Result LooseDefinition Breach) → IsEither (faults.Breach breaches.UnknownDataType) (of_loose_definition s read)
@@ -168,11 +181,11 @@ by_breach s meanings.Define body breaches.BadKey = inl refl
 by_breach s meanings.Define body breaches.BadValue = inl refl
 by_breach s meanings.Define body breaches.Trailing = inl refl
 
-stands_or_listed : (l : Tolerance) (t e : Taking) (fault : Fault) (p : Passage) → passage_of l t ≡ p → IsEither fault p → Stops t fault e → Reads (Some l) t (Err fault) e (Some l) ⊎ IsListed fault (passage_of l t)
+stands_or_listed : (l : Tolerance) (t e : Taking) (fault : Fault) (p : Passage) → passage_of l t ≡ p → IsEither fault p → Stops t fault e → Reads (Some l) t (Err fault) e (Some l) ⊎ Lists fault (passage_of l t)
 stands_or_listed l t e fault p is (inl strict) stops = inl (as_passage l t e (Err fault) Strict (is ∙ strict) (stops, refl))
-stands_or_listed l t e fault p is (inr listed) stops = inr (subst (IsListed fault) (sym is) listed)
+stands_or_listed l t e fault p is (inr listed) stops = inr (subst (Lists fault) (sym is) listed)
 
-pub stops_too : (l : Tolerance) (t e : Taking) (fault : Fault) → l.loose ≡ [] → fault ≢ faults.Memory → IntakeNext t (Err fault) e → Reads (Some l) t (Err fault) e (Some l) ⊎ IsListed fault (passage_of l t)
+pub stops_too : (l : Tolerance) (t e : Taking) (fault : Fault) → l.loose ≡ [] → fault ≢ faults.Memory → IntakeNext t (Err fault) e → Reads (Some l) t (Err fault) e (Some l) ⊎ Lists fault (passage_of l t)
 stops_too l t e faults.Memory none wanted stops = absurd (wanted refl)
 stops_too l t e faults.Closed none wanted (shut, is) =
     let strict : passage_of l t ≡ Strict = rw shut refl in
@@ -183,7 +196,7 @@ stops_too l t e faults.NoNumber none wanted (is_open, m, rest, at, refused, is) 
 stops_too l t e faults.EmptySlot none wanted (is_open, m, rest, at, refused, is) =
     let passage = bodied l t (Ok m) rest is_open (none_loose l t.state.received (frame_at t.unread) none) (whole_front t.state.received t.unread m rest at) in
     let empty = empty_update t.state m refused in
-    inr (subst (IsListed faults.EmptySlot) (sym (passage ∙ empty.4)) refl)
+    inr (subst (Lists faults.EmptySlot) (sym (passage ∙ empty.4)) (refl, refl))
 stops_too l t e (faults.Breach breach) none wanted (is_open, at, is) = elim (faulty_front t.state.received t.unread breach at) [
   | inl never ↦
       let strict : passage_of l t ≡ Strict = unloosed l t (Err breach) is_open never (none_loose l t.state.received (frame_at t.unread) none) in

@@ -1,5 +1,5 @@
 -- How a tolerant reader differs from a strict one (profile).
-use Rattle.std.specs.Prelude.{◌≡◌, ◌⊎◌, ℕ, false, List, [], ◌++◌, Option, Some, None, option_map, Ok}
+use Rattle.std.specs.Prelude.{◌≡◌, ◌⊎◌, ℕ, true, false, List, [], ◌++◌, Option, Some, None, option_map, Ok}
 use Rattle.std.specs.List.{AllByRecursion}
 use Rattle.table_types.specs.Tables.{Definition}
 use Rattle.table_types.specs.Keys.{number_of}
@@ -14,26 +14,16 @@ use Rattle.learner.specs.declared.taken.Taken.{Taken}
 use Rattle.learner.specs.LocalTables.{local_table}
 use Rattle.learner.specs.Intake.{Taking}
 use Rattle.tolerant_intake.specs.declared.loose_table.LooseTable.{LooseTable}
+use Rattle.tolerant_intake.specs.declared.passed_over.Cause.{Cause}
 use Rattle.tolerant_intake.specs.declared.passed_over.Cause.TheVariants as causes
 use Rattle.tolerant_intake.specs.Loose.{LooseDefinition, LooseUpdate, loose_definition_at}
-use Rattle.tolerant_intake.specs.Tolerance.{Tolerance, selected_loose}
+use Rattle.tolerant_intake.specs.Tolerance.{Tolerance, is_further, selected_loose}
 use Rattle.tolerant_intake.specs.Policy.{Passage, Counts, StandsIn, Breaks, IsFurther, loose_front, numbered, writes}
 use Rattle.tolerant_intake.specs.Reading.{AreRead}
 
--- what becomes of a message at which the strict intake stops with this fault, if that doesn't stand: it is passed over, or
--- it is a definition of a further id
-abbrev pub IsListed : Fault → Passage → Type 0
-IsListed faults.EmptySlot (Counts r (Some causes.Slot)) = r.written ≡ None
-IsListed (faults.Breach BadValue) (Counts r (Some causes.Value)) = r.written ≡ None
-IsListed (faults.Breach UnknownDataType) (StandsIn d) = Unit {0}
-IsListed (faults.Breach UnknownDataType) (Breaks SizeLimit) = Unit {0}
-IsListed (faults.Breach BadDefinition) (StandsIn d) = Unit {0}
-IsListed (faults.Breach BadDefinition) (Breaks SizeLimit) = Unit {0}
-IsListed fault p = ⊥
-
 -- what has to be known of a table of the profile to read its updates loosely
 abbrev pub as_loose : Definition → LooseTable
-as_loose d = record { kind = number_of d.kind; key_length = d.key_length; types = d.types }
+as_loose d = record { kind = number_of d.kind; key_length = d.key_length; types = d.types; further = false }
 
 -- the message at the front is an update of the selected table; read loosely, it ends with its name field, has a number, and writes
 -- no name
@@ -46,15 +36,38 @@ IsSilent t =
     × (numbered t.state u.number ≡ Some n)
     × (writes u.name ≡ false)
 
--- the message at the front is a definition of which id, name and four integers can be read
-abbrev pub IsLooselyDefined : Taking → Type 0
-IsLooselyDefined t =
+-- the message at the front is a definition, of which id, name and four integers are read as `d`
+abbrev pub DefinesLoosely : Taking → LooseDefinition → Type 0
+DefinesLoosely t d =
     (f : Frame)
     × (rest : List ℕ)
-    × (d : LooseDefinition)
     × (frame_at t.unread ≡ Ok (Some (f, rest)))
     × (meant f.class f.message_type ≡ meanings.Define)
     × (loose_definition_at f.body ≡ Ok d)
+
+abbrev pub IsLooselyDefined : Taking → Type 0
+IsLooselyDefined t = (d : LooseDefinition) × DefinesLoosely t d
+
+-- ---- what becomes of a message at which the strict intake stops
+
+-- the message is passed over and counts for this cause; it writes no name
+abbrev pub CountsAs : Cause → Passage → Type 0
+CountsAs cause (Counts r (Some counts)) = (counts ≡ cause) × (r.written ≡ None)
+CountsAs cause p = ⊥
+
+-- another definition stands in for the one at the front, whose id isn't a further one; or the reader stops at it, since its id is
+abbrev pub StandsInUnlessFurther : Taking → Passage → Type 0
+StandsInUnlessFurther t (StandsIn d) = DefinesLoosely t d × (is_further t.state.received d.id ≡ false)
+StandsInUnlessFurther t (Breaks SizeLimit) = (d : LooseDefinition) × DefinesLoosely t d × (is_further t.state.received d.id ≡ true)
+StandsInUnlessFurther t p = ⊥
+
+-- what becomes of the message if this fault doesn't stand
+abbrev pub IsListed : Taking → Fault → Passage → Type 0
+IsListed t faults.EmptySlot p = CountsAs causes.Slot p
+IsListed t (faults.Breach BadValue) p = CountsAs causes.Value p
+IsListed t (faults.Breach UnknownDataType) p = StandsInUnlessFurther t p
+IsListed t (faults.Breach BadDefinition) p = StandsInUnlessFurther t p
+IsListed t fault p = ⊥
 
 -- whether a message at which the strict intake stops with this fault is passed over, or else is a definition of a further id
 abbrev pub IsPassable : Fault → Taking → Type 0
@@ -63,6 +76,8 @@ IsPassable (faults.Breach BadValue) t = IsSilent t
 IsPassable (faults.Breach UnknownDataType) t = IsLooselyDefined t
 IsPassable (faults.Breach BadDefinition) t = IsLooselyDefined t
 IsPassable fault t = ⊥
+
+-- ---- what is read
 
 -- the tolerant reader reads these messages too, or the first of them, up to a definition of a further id
 abbrev pub AreReadToo : Tolerance → Taking → List Taken → Taking → Type 0

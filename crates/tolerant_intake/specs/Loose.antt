@@ -1,7 +1,7 @@
 -- Reading loosely what the profile doesn't have: definitions of any shape, and the updates of such tables up to their
 -- name field (HAProxy, doc/peers-v2.0.txt, "Table Definition Message", "Update Messages"; what is read loosely is the
 -- profile's choice).
-use Rattle.std.specs.Prelude.{ℕ, ◌/◌, ◌%◌, Bool, ◌==◌, List, [], ◌∷◌, Option, None, Result, Ok, if◌then◌else◌}
+use Rattle.std.specs.Prelude.{ℕ, ◌/◌, ◌%◌, Bool, ◌==◌, List, [], ◌∷◌, Option, None, Result, Ok, Err, if◌then◌else◌}
 use Rattle.std.specs.List.{list_any}
 use Rattle.table_types.specs.declared.data_type.DataType.{DataType}
 use Rattle.table_types.specs.declared.data_type.Shape.{Shape}
@@ -11,21 +11,21 @@ use Rattle.table_types.specs.Updates.{is_name_type}
 use Rattle.peers_msg.specs.declared.fault.Breach.{Breach}
 use Rattle.peers_msg.specs.declared.fault.Breach.TheVariants.{BadDefinition, BadKey, BadValue}
 use Rattle.peers_msg.specs.declared.name_field.NameField.{NameField}
-use Rattle.peers_msg.specs.Reading.{◌>>=◌, integer_at, bytes_at, optional_at, name_at, named_at}
+use Rattle.peers_msg.specs.Reading.{◌>>=◌, integer_at, bytes_at, optional_at, name_at, named_at, period_at}
 
 -- ---- definitions
 
--- what is read of a definition: the table's id and name, the number of its keys' kind, their length, and the bits of its
--- data types
+-- what is read of a definition: the table's id and name, the number of its keys' kind, their length, the bits of its data
+-- types, and the bytes that follow its expire, which begin with the periods of its rates
 pub record LooseDefinition : Type 0 where
   pub id : ℕ
   pub name : List ℕ
   pub kind : ℕ
   pub key_length : ℕ
   pub bits : ℕ
+  pub periods : List ℕ
 
--- id and name as in every definition, then kind, key length, bits and expire, each an encoded integer of any size; what
--- follows isn't read
+-- id and name as in every definition, then kind, key length, bits and expire, each an encoded integer of any size
 unfoldable pub loose_definition_at : List ℕ → Result LooseDefinition Breach
 loose_definition_at bytes = do
   named ← named_at bytes
@@ -33,16 +33,23 @@ loose_definition_at bytes = do
   key_length ← integer_at BadDefinition kind.1
   bits ← integer_at BadDefinition key_length.1
   expire ← integer_at BadDefinition bits.1
-  Ok (record { id = named.0.0; name = named.0.1; kind = kind.0; key_length = key_length.0; bits = bits.0 })
+  Ok (record { id = named.0.0; name = named.0.1; kind = kind.0; key_length = key_length.0; bits = bits.0; periods = expire.1 })
 
--- the types among these, the first at the lowest bit, whose bits are set
-abbrev pub types_stored : List DataType → ℕ → List (DataType × Option ℕ)
-types_stored [] bits = []
-types_stored (t ∷ ts) bits = if bits % 2 == 0 then types_stored ts (bits / 2) else (t, None) ∷ types_stored ts (bits / 2)
+-- a period and the bytes after it; behind one that can't be read, none can
+abbrev pub period_or_none : Result (Option ℕ × List ℕ) Breach → Option ℕ × List ℕ
+period_or_none (Ok read) = read
+period_or_none (Err breach) = (None, [])
 
--- the types below 20 that a definition has, without periods
+-- the types among these, the first at the lowest bit, whose bits are set, each rate with its period, if that can be read
+unfoldable pub types_stored : List DataType → ℕ → List ℕ → List (DataType × Option ℕ)
+types_stored [] bits bytes = []
+types_stored (t ∷ ts) bits bytes =
+    if bits % 2 == 0 then types_stored ts (bits / 2) bytes
+    else (t, (period_or_none (period_at t bytes)).0) ∷ types_stored ts (bits / 2) (period_or_none (period_at t bytes)).1
+
+-- the types below 20 that a definition has
 abbrev pub known_types : LooseDefinition → List (DataType × Option ℕ)
-known_types d = types_stored all_types d.bits
+known_types d = types_stored all_types d.bits d.periods
 
 -- ---- updates
 

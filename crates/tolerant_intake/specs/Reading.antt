@@ -15,7 +15,8 @@ use Rattle.learner.specs.Intake as intakes
 use Rattle.tolerant_intake.specs.declared.passed_over.PassedOver.{PassedOver}
 use Rattle.tolerant_intake.specs.Counts.{none_passed}
 use Rattle.tolerant_intake.specs.StandIns.{stand_in}
-use Rattle.tolerant_intake.specs.Tolerance.{Tolerance, counted_for, nothing_passed, redefined, replaced}
+use Rattle.tolerant_intake.specs.declared.loose_table.LooseTable.{LooseTable}
+use Rattle.tolerant_intake.specs.Tolerance.{Tolerance, counted_for, loose_at, nothing_passed, redefined, replaced}
 use Rattle.tolerant_intake.specs.Policy.{Passage, Strict, Defines, Counts, StandsIn, Unnumbered, Breaks, IsFurther, passage_of}
 
 -- what the intake holds; and what the reader remembers beside it, if it is tolerant
@@ -35,6 +36,11 @@ tolerating r = record r { tolerance = Some nothing_passed }
 abbrev pub passed_by : Option Tolerance → PassedOver
 passed_by None = none_passed
 passed_by (Some l) = l.passed_over
+
+-- the table outside the profile with an id, if the reader is tolerant
+abbrev pub loose_of : Option Tolerance → ℕ → Option LooseTable
+loose_of None id = None
+loose_of (Some l) id = loose_at l.loose id
 
 -- ---- one message
 

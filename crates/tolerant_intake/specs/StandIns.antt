@@ -28,10 +28,14 @@ name_type_of types = if has_name_type types then (ServerKey, None) ∷ [] else [
 abbrev pub stand_in : List Definition → LooseDefinition → Definition
 stand_in roster d = record { id = d.id; name = d.name; kind = kinds.String; key_length = other_length roster d.name; expire = 0; types = name_type_of (known_types d) }
 
--- what has to be known of the table to read its updates
+-- there is a data type from 20 up
+abbrev pub has_further : LooseDefinition → Bool
+has_further d = nat_le (2 ^ 20) d.bits
+
+-- what is kept of the table: what has to be known to read its updates, and whether it has further types
 abbrev pub loose_table : LooseDefinition → LooseTable
-loose_table d = record { kind = d.kind; key_length = d.key_length; types = known_types d }
+loose_table d = record { kind = d.kind; key_length = d.key_length; types = known_types d; further = has_further d }
 
 -- a data type from 20 up, or another thing outside the profile
 abbrev pub cause_of : LooseDefinition → Cause
-cause_of d = if nat_le (2 ^ 20) d.bits then causes.DataType else causes.Definition
+cause_of d = if has_further d then causes.DataType else causes.Definition

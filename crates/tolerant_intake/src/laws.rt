@@ -33,8 +33,8 @@ pub fn agrees()
         Reads (Some l) t (Ok (Some answer)) e (Some l) ⊎ IsFurther t }
     ensures messages { (answers : List Taken) (l : Tolerance) (t e : Taking) → l.loose ≡ [] → AreRead None t answers e None → AreReadToo l t answers e }
     ensures stops { (l : Tolerance) (t e : Taking) (fault : Fault) → l.loose ≡ [] → fault ≢ faults.Memory → IntakeNext t (Err fault) e →
-        Reads (Some l) t (Err fault) e (Some l) ⊎ IsListed fault (passage_of l t) }
-    ensures passes { (l : Tolerance) (t e : Taking) (fault : Fault) → l.loose ≡ [] → IntakeNext t (Err fault) e → IsListed fault (passage_of l t) ↔ IsPassable fault t }
+        Reads (Some l) t (Err fault) e (Some l) ⊎ IsListed t fault (passage_of l t) }
+    ensures passes { (l : Tolerance) (t e : Taking) (fault : Fault) → l.loose ≡ [] → IntakeNext t (Err fault) e → IsListed t fault (passage_of l t) ↔ IsPassable fault t }
     ensures again { (l left : Tolerance) (t e : Taking) (answer : Taken) → l.loose ≡ [] → Reads (Some l) t (Ok (Some answer)) e (Some left) →
         (left.loose ≡ []) ⊎ ((d : LooseDefinition) × (passage_of l t ≡ StandsIn d)) }
     ensures further { (l : Tolerance) (t : Taking) → l.loose ≡ [] → t.closed ≡ false → IsFurther t → Reads (Some l) t (Err (faults.Breach SizeLimit)) (shut t) (Some l) }

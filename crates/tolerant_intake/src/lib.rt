@@ -18,5 +18,6 @@ pub use laws::{
     agrees, always_an_answer, any_cutting, due_ids_change_nothing, more_bytes_change_nothing,
     names_arrive, one_answer, stand_ins_are_others, stand_ins_stay,
 };
+pub use loose_table::LooseTable;
 pub use passed_over::PassedOver;
 pub use reader::Reader;

@@ -6,7 +6,7 @@ ghost use Rattle.peers_msg.specs.Borrowed.{Reads};
 ghost use Rattle.table_types.specs.Names.{is_name};
 ghost use Rattle.table_types.specs.Tables.{is_id};
 ghost use Rattle.tolerant_intake.specs.Loose.{loose_definition_at, has_name_type};
-ghost use Rattle.tolerant_intake.specs.StandIns.{has_short_keys, other_length, name_type_of, stand_in, loose_table, cause_of};
+ghost use Rattle.tolerant_intake.specs.StandIns.{has_short_keys, other_length, name_type_of, stand_in, has_further, loose_table, cause_of};
 
 use crate::loose_table::{LooseTable, types_stored};
 use crate::loose_update::has_name_type;
@@ -26,12 +26,14 @@ pub(crate) struct LooseDefinition<'a> {
     pub key_length: u64,
     /// One bit for each data type.
     pub bits: u64,
+    /// The bytes that follow the expire, which begin with the periods of rates.
+    pub periods: &'a [u8],
 }
 
-/// Reads a definition up to its expire, each field of any size but the id and the name.
+/// Reads a definition up to its expire, each field of any size but the id and the name; what follows is kept as it is.
 #[tactic(auto, unfolding(crate::specs::Loose::loose_definition_at))]
 pub(crate) fn loose_definition_at(bytes: &[u8]) -> Result<LooseDefinition<'_>, Breach>
-    ensures read { Reads (λ d. record { id = d.id; name = d.name.now; kind = d.kind; key_length = d.key_length; bits = d.bits }) result (loose_definition_at bytes.now) }
+    ensures read { Reads (λ d. record { id = d.id; name = d.name.now; kind = d.kind; key_length = d.key_length; bits = d.bits; periods = d.periods.now }) result (loose_definition_at bytes.now) }
     ensures id { IfOk result (λ d. is_id d.id ≡ true) }
     ensures name { IfOk result (λ d. is_name d.name.now ≡ true) }
 {
@@ -39,13 +41,14 @@ pub(crate) fn loose_definition_at(bytes: &[u8]) -> Result<LooseDefinition<'_>, B
     let (kind, rest) = integer_at(Breach::BadDefinition, rest)?;
     let (key_length, rest) = integer_at(Breach::BadDefinition, rest)?;
     let (bits, rest) = integer_at(Breach::BadDefinition, rest)?;
-    let (_expire, _rest) = integer_at(Breach::BadDefinition, rest)?;
+    let (_expire, periods) = integer_at(Breach::BadDefinition, rest)?;
     Ok(LooseDefinition {
         id,
         name,
         kind,
         key_length,
         bits,
+        periods,
     })
 }
 
@@ -89,14 +92,22 @@ fn is_memory(error: DefError) -> bool
 }
 
 impl<'a> LooseDefinition<'a> {
-    /// Returns what has to be known of the table to read its updates.
+    /// Returns whether there are data types from 20 up.
+    fn has_further(self) -> bool
+        ensures { result ≡ has_further (record { id = self.entry.id; name = self.entry.name.now; kind = self.entry.kind; key_length = self.entry.key_length; bits = self.entry.bits; periods = self.entry.periods.now }) }
+    {
+        self.bits >= 1 << 20
+    }
+
+    /// Returns what is kept of the table.
     pub(crate) fn table(self, alloc: Global) -> Result<LooseTable, Memory>
-        ensures { IfOk result (λ table. table ≡ loose_table (record { id = self.entry.id; name = self.entry.name.now; kind = self.entry.kind; key_length = self.entry.key_length; bits = self.entry.bits })) }
+        ensures { IfOk result (λ table. table ≡ loose_table (record { id = self.entry.id; name = self.entry.name.now; kind = self.entry.kind; key_length = self.entry.key_length; bits = self.entry.bits; periods = self.entry.periods.now })) }
     {
         Ok(LooseTable {
             kind: self.kind,
             key_length: self.key_length,
-            types: types_stored(alloc, self.bits)?,
+            types: types_stored(alloc, self.bits, self.periods)?,
+            further: self.has_further(),
         })
     }
 
@@ -109,8 +120,8 @@ impl<'a> LooseDefinition<'a> {
     ) -> Result<TableDef, Memory>
         requires id { is_id self.id ≡ true }
         requires name { is_name self.name.now ≡ true }
-        requires types { types.now ≡ (loose_table (record { id = self.id; name = self.name.now; kind = self.kind; key_length = self.key_length; bits = self.bits })).types }
-        ensures { IfOk result (λ table. table ≡ stand_in roster.now (record { id = self.entry.id; name = self.entry.name.now; kind = self.entry.kind; key_length = self.entry.key_length; bits = self.entry.bits })) }
+        requires types { types.now ≡ (loose_table (record { id = self.id; name = self.name.now; kind = self.kind; key_length = self.key_length; bits = self.bits; periods = self.periods.now })).types }
+        ensures { IfOk result (λ table. table ≡ stand_in roster.now (record { id = self.entry.id; name = self.entry.name.now; kind = self.entry.kind; key_length = self.entry.key_length; bits = self.entry.bits; periods = self.entry.periods.now })) }
     {
         let length = other_length(roster.tables(), self.name);
         let name = Vec::from_slice(alloc, self.name)?;
@@ -124,9 +135,9 @@ impl<'a> LooseDefinition<'a> {
 
     /// Returns why the definition is outside the profile.
     pub(crate) fn cause(self) -> Cause
-        ensures { result ≡ cause_of (record { id = self.entry.id; name = self.entry.name.now; kind = self.entry.kind; key_length = self.entry.key_length; bits = self.entry.bits }) }
+        ensures { result ≡ cause_of (record { id = self.entry.id; name = self.entry.name.now; kind = self.entry.kind; key_length = self.entry.key_length; bits = self.entry.bits; periods = self.entry.periods.now }) }
     {
-        if self.bits >= 1 << 20 {
+        if self.has_further() {
             Cause::DataType
         } else {
             Cause::Definition

@@ -183,7 +183,7 @@ fn stand_in(
 ) -> Result<Plan, Memory>
     requires id { is_id definition.id ≡ true }
     requires name { is_name definition.name.now ≡ true }
-    ensures { IfOk result (λ plan. IsPassing roster.now (StandsIn (record { id = definition.entry.id; name = definition.entry.name.now; kind = definition.entry.kind; key_length = definition.entry.key_length; bits = definition.entry.bits })) plan used) }
+    ensures { IfOk result (λ plan. IsPassing roster.now (StandsIn (record { id = definition.entry.id; name = definition.entry.name.now; kind = definition.entry.kind; key_length = definition.entry.key_length; bits = definition.entry.bits; periods = definition.entry.periods.now })) plan used) }
 {
     let loose = definition.table(alloc)?;
     let table = definition.stand_in(alloc, roster, loose.types.as_slice())?;

@@ -1,16 +1,17 @@
 //! Readers.
 
-ghost use Rattle.std.specs.Prelude.{◌≡◌, ◌<◌, [], IfOk, IsSome, OnOk, OnErr, length};
+ghost use Rattle.std.specs.Prelude.{◌≡◌, ◌<◌, [], IfOk, IsSome, OnOk, OnErr, length, option_copied};
 ghost use Rattle.learner.specs.Acks.{AreRisingAcks};
 ghost use Rattle.learner.specs.Intake.{IntakeFeeds, due_acks};
-ghost use Rattle.tolerant_intake.specs.Reading.{Reads, begun, passed_by, tolerating};
+ghost use Rattle.tolerant_intake.specs.Reading.{Reads, begun, loose_of, passed_by, tolerating};
 
+use crate::loose_table::LooseTable;
 use crate::passed_over::PassedOver;
 use crate::tolerance::Tolerance;
 #[cfg(test)]
 use known_state::State;
 use learner::{Fault, Intake, Taken};
-use peers_msg::Message;
+use peers_msg::{Message, Received};
 use std::alloc::Global;
 use std::marker::Model;
 use table_types::{Memory, Roster};
@@ -76,6 +77,23 @@ impl Reader {
         ensures { result.now ≡ self.now.intake.state }
     {
         self.intake.state()
+    }
+
+    /// Returns the definitions received. One outside the profile has another in its place, with its id and its name.
+    pub fn received(&self) -> &Received
+        ensures { result.now ≡ self.now.intake.state.received }
+    {
+        self.intake.state().received()
+    }
+
+    /// Returns what was kept of the table with the id `id`, if it is outside the profile.
+    pub fn loose(&self, id: u64) -> Option<&LooseTable>
+        ensures { option_copied result ≡ loose_of self.now.tolerance id }
+    {
+        match &self.tolerance {
+            Some(tolerance) => tolerance.loose(id),
+            None => None,
+        }
     }
 
     /// Returns how often something was passed over, for each cause.

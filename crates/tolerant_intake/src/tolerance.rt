@@ -9,7 +9,7 @@ ghost use Rattle.learner.specs.declared.fault.Fault.TheVariants as faults;
 ghost use Rattle.learner.specs.Front.{Looks};
 ghost use Rattle.learner.specs.Front as fronts;
 ghost use Rattle.tolerant_intake.specs.Counts.{counted};
-ghost use Rattle.tolerant_intake.specs.Tolerance.{nothing_passed, counted_for, outlasting, selected_loose};
+ghost use Rattle.tolerant_intake.specs.Tolerance.{nothing_passed, counted_for, loose_at, outlasting, selected_loose};
 ghost use Rattle.tolerant_intake.specs.Policy.{loose_front, passage_of};
 ghost use Rattle.tolerant_intake.specs.Planning.{IsPlan, Plans, left_after};
 ghost use Rattle.tolerant_intake.specs.Reading.{Reads};
@@ -61,6 +61,13 @@ impl Tolerance {
         self.passed_over
     }
 
+    /// Returns the table outside the profile with the id `id`.
+    pub(crate) fn loose(&self, id: u64) -> Option<&LooseTable>
+        ensures { option_copied result ≡ loose_at self.now.loose id }
+    {
+        self.loose.get(&id)
+    }
+
     /// Counts what was passed over, if there is a cause.
     fn count(&mut self, cause: Option<Cause>)
         ensures { self.new ≡ counted_for cause self.old }
@@ -75,7 +82,7 @@ impl Tolerance {
         ensures { option_copied result ≡ selected_loose self.now intake.now.state.received }
     {
         match intake.state().received().selected() {
-            Some(id) => self.loose.get(&id),
+            Some(id) => self.loose(id),
             None => None,
         }
     }

@@ -103,6 +103,7 @@ pub fn work<R: Wait, G: Gate>(
         shards,
         number: SESSION,
         moment: Moment::least(),
+        failures: 0,
     };
     for _ in 0..TableCell::MOST_EVENTS {
         let Some(batch) = copy(&context, seat)? else {

@@ -21,9 +21,10 @@ fn kind_of(number: u64) -> Result<KeyKind, Breach>
     }
 }
 
-/// Reads a rate's id and period, or nothing for another type.
+/// Reads a rate's id and period, and returns the period with the bytes after it. Reads nothing for another type. Returns `BadDefinition`
+/// for another id, or a period that is cut short or out of range, unless an integer of 2^64 or more comes before.
 #[tactic(auto, unfolding(crate::specs::Reading::period_at))]
-pub(crate) fn period_at(data_type: DataType, bytes: &[u8]) -> Result<(Option<u32>, &[u8]), Breach>
+pub fn period_at(data_type: DataType, bytes: &[u8]) -> Result<(Option<u32>, &[u8]), Breach>
     ensures { Reads (λ x. (x.0, x.1.now)) result (period_at data_type bytes.now) }
 {
     if !data_type.is_rate() {

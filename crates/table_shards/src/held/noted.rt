@@ -6,6 +6,7 @@ ghost use Rattle.table_cell.specs.Histories.{Acknowledges, Copies, Learns, event
 ghost use Rattle.table_cell.specs.declared.events.CellEvent.TheVariants as events;
 ghost use Rattle.table_cell.specs.declared.events.CellReply.TheVariants as replies;
 ghost use Rattle.table_shards.specs.Holding.{Holds, Leaves, Looks, Settles, receipted};
+ghost use Rattle.table_shards.specs.Refusals.{needs_none, no_memory_to_ack, no_memory_to_copy, no_memory_to_learn};
 ghost use Rattle.table_shards.specs.Noting.{Notes, if_ahead, if_full, if_latest, if_nothing};
 
 use crate::answers::{if_ahead, if_full, if_latest, if_nothing};
@@ -25,7 +26,7 @@ pub fn learn(
     update: Update,
     now: Moment,
 ) -> Result<(), ShardError<LearnError>>
-    ensures { Notes (λ mid. Leaves (λ c r e. Learns c session update now r e) (events.Learn session update now) replies.Learn
+    ensures { Notes (λ mid. Leaves no_memory_to_learn (λ c r e. Learns c session update now r e) (events.Learn session update now) replies.Learn
         table locked.old seat.old result locked.new mid)
         table session (events_of locked.old) (if_full update.number now result) seat.new }
 {
@@ -47,7 +48,7 @@ pub fn copy(
     now: Moment,
 ) -> Result<Batch, ShardError<CopyError>>
     requires { (1 ≤ limit) × (limit ≤ 4096) }
-    ensures { Notes (λ mid. Holds (λ c r e. Copies c session kind limit now r e)
+    ensures { Notes (λ mid. Holds no_memory_to_copy (λ c r e. Copies c session kind limit now r e)
         (λ batch. receipted table locked.old seat.old (events.Copy session kind limit now) (replies.Copy batch))
         table locked.old seat.old result locked.new mid)
         table session (events_of locked.old) (if_nothing kind limit now result) seat.new }
@@ -71,7 +72,7 @@ pub fn ack(
     session: u32,
     number: u32,
 ) -> Result<Settled, ShardError<AckError>>
-    ensures { Notes (λ mid. Holds (λ c r e. Acknowledges c session number r e)
+    ensures { Notes (λ mid. Holds no_memory_to_ack (λ c r e. Acknowledges c session number r e)
         (λ settled. receipted table locked.old seat.old (events.Ack session number) (replies.Ack settled))
         table locked.old seat.old result locked.new mid)
         table session (events_of locked.old) (if_ahead number result) seat.new }
@@ -91,7 +92,7 @@ pub fn settle(
     session: u32,
     batch: &Batch,
 ) -> Result<(), ShardError<StrangeBatch>>
-    ensures { Notes (λ mid. Looks (λ c r e. Settles c session batch.now r e) table locked.old seat.old result locked.new mid)
+    ensures { Notes (λ mid. Looks needs_none (λ c r e. Settles c session batch.now r e) table locked.old seat.old result locked.new mid)
         table session (events_of locked.old) (if_latest result) seat.new }
 {
     let events = locked.cell().events();

@@ -1,4 +1,4 @@
-use Rattle.std.proofs.Common.{◌≡◌, ◌∙◌, ◌++◌, List, [], ◌∷◌, ap, arith, length, map}
+use Rattle.std.proofs.Common.{◌∙◌, ◌++◌, ap, arith, map}
 use Rattle.admin_text.specs.Statements.{said_by}
 use Rattle.admin_text.proofs.StatementLaws.{some_said}
 use Rattle.std.proofs.lemmas.List.{length-map, map-append}

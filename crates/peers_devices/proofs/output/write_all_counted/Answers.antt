@@ -15,7 +15,7 @@ loop-sent-preserved-in-Ok g c =
       so_far = writes_more _ _ _ _ _ c.args.bytes.now before.so_far (wrote_some _ _ _ _ wrote);
       within = stays_within _ _ c.args.bytes.now before.within wrote.0;
       tries = before.tries;
-      retried = subst (λ (n : ℕ). HasRetried (written (g.W.Write.contents c.args.output.now) c.args.writes.now).retried c.loop-sent.retries n) (sym wrote.5) before.retried;
+      retried = subst (λ (n : ℕ). HasRetried c.args.writes.now.retried c.loop-sent.retries n) (sym wrote.4) before.retried;
     }
 
 pub loop-sent-init : goal.loop-sent-init
@@ -31,9 +31,9 @@ returns-then-retries-eq-MOST_RETRIES-clause-balks g c =
     let before = c.loop-sent.invariant in
     let wrote : IsOneWrite (written (g.W.Write.contents c.loop-sent.output) c.loop-sent.writes) (rest_of c.loop-sent.sent c.args.bytes.now) (Err unwritten.Uncounted) (written (g.W.Write.contents c.write_once.new.output) c.write_once.new.writes) =
     subst (λ (r : Result ℕ Unwritten). IsOneWrite (written (g.W.Write.contents c.loop-sent.output) c.loop-sent.writes) (rest_of c.loop-sent.sent c.args.bytes.now) r (written (g.W.Write.contents c.write_once.new.output) c.write_once.new.writes)) (c.in-Err-Uncounted.is ∙ ap (λ (w : Unwritten). Err w) c.in-Err-Uncounted.field-0-is) c.write_once.ensures.once in
-    let retried = retried_once_more _ _ _ _ before.retried wrote.4 in
-    let full : HasRetried (written (g.W.Write.contents c.args.output.now) c.args.writes.now).retried (most_retries + 1) (written (g.W.Write.contents c.write_once.new.output) c.write_once.new.writes).retried =
-    subst (λ (n : ℕ). HasRetried (written (g.W.Write.contents c.args.output.now) c.args.writes.now).retried (n + 1) (written (g.W.Write.contents c.write_once.new.output) c.write_once.new.writes).retried) c.if-retries-eq-MOST_RETRIES.true retried in
+    let retried = retried_once_more _ _ _ _ before.retried wrote.3 in
+    let full : HasRetried c.args.writes.now.retried (most_retries + 1) c.write_once.new.writes.retried =
+    subst (λ (n : ℕ). HasRetried c.args.writes.now.retried (n + 1) c.write_once.new.writes.retried) c.if-retries-eq-MOST_RETRIES.true retried in
     inr (worn_out _ _ full)
 
 pub loop-sent-preserved : goal.loop-sent-preserved
@@ -45,5 +45,5 @@ loop-sent-preserved g c =
       so_far = writes_no_more _ _ _ _ before.so_far (wrote_none _ _ (rest_of c.loop-sent.sent c.args.bytes.now) unwritten.Uncounted wrote);
       within = before.within;
       tries = omega (arith, before.tries, c.if-retries-eq-MOST_RETRIES.false);
-      retried = retried_once_more _ _ _ _ before.retried wrote.4;
+      retried = retried_once_more _ _ _ _ before.retried wrote.3;
     }

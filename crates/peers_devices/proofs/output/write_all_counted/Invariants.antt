@@ -8,7 +8,7 @@ invariant-loop-sent g l = record {
   so_far : AreWritten (written (g.W.Write.contents l.fn.output) l.fn.writes) (written (g.W.Write.contents l.output) l.writes) (take l.sent l.bytes);
   within : l.sent ≤ length l.bytes;
   tries : l.retries ≤ 1000000;
-  retried : HasRetried (written (g.W.Write.contents l.fn.output) l.fn.writes).retried l.retries (written (g.W.Write.contents l.output) l.writes).retried;
+  retried : HasRetried l.fn.writes.retried l.retries l.writes.retried;
 }
 
 abbrev pub decreases-loop-sent : goal.decreases-loop-sent

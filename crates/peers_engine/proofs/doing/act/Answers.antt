@@ -1,11 +1,11 @@
-use Rattle.std.proofs.Common.{◌∙◌, Bool, IfErr, ap, subst, sym}
+use Rattle.std.proofs.Common.{◌≡◌, ◌⊎◌, ◌∙◌, Bool, IfErr, Ok, ap, subst, sym}
 use Rattle.std.proofs.lemmas.Result.{IfErr-weaker, err_from_is_err_and, on_ok_weaker}
 use Rattle.table_types.specs.declared.version.Version.{Version}
 use Rattle.session_core.specs.declared.action.Action.TheVariants as actions
 use Rattle.session_core.specs.Keeping.{is_staying}
 use Rattle.peers_devices.specs.Writing.{written}
 use Rattle.peers_engine.specs.Acting.{worker}
-use Rattle.peers_engine.specs.Calls.{IsCopied, IsLearned, IsUncopied, IsUnlearned, IsUnopened, moment_at, opened_with}
+use Rattle.peers_engine.specs.Calls.{CallsClose, IsCopied, IsLearned, IsUncopied, IsUnlearned, IsUnopened, moment_at, opened_with}
 use Rattle.peers_engine.specs.Doing.{IsRefusal}
 use Rattle.peers_engine.proofs.AnswerLaws.{ack_done, call_refused, close_done, copy_done, learn_done, part_done, part_falls, reopen_done, send_done, send_falls, table_refuses, teach_done, teach_fails}
 use Rattle.peers_engine.proofs.OneActionLaws.{answered, fails_alone, silently_done, unanswered}
@@ -55,7 +55,7 @@ returns-in-Learn-clause-failed g c =
     IfErr-weaker c.learn.result _ _
     (λ error fails. fails_alone c.args.context.now.shards.now (worker c.args.session.now c.args.seat.now c.args.context.now.number c.args.context.now.moment) c.learn.new.seat c.args.action error (written (g.W.Write.contents c.args.output.now) c.args.writes.now) (written (g.W.Write.contents c.args.output.now) c.args.writes.now) fails)
     (table_refuses c.args.context.now.shards.now (is_staying c.args.session.now.manner) c.args.context.now.number c.args.context.now.moment c.args.session.now.session c.args.seat.now c.learn.new.seat c.args.action (actions.Learn c.in-Learn.update) (written (g.W.Write.contents c.args.output.now) c.args.writes.now) c.learn.result c.in-Learn.is tt
-    (subst (λ (b : Bool). IfErr c.learn.result (IsRefusal (IsUnlearned c.args.context.now.shards.now (moment_at b c.args.context.now.moment) c.args.context.now.number c.args.seat.now c.in-Learn.update c.learn.new.seat))) c.stays-stays.ensures c.learn.ensures.refused) c.learn.ensures.stays)
+    (subst (λ (b : Bool). IfErr c.learn.result (IsRefusal (c.learn.new.seat ≡ c.args.seat.now) (IsUnlearned c.args.context.now.shards.now (moment_at b c.args.context.now.moment) c.args.context.now.number c.args.seat.now c.in-Learn.update c.learn.new.seat))) c.stays-stays.ensures c.learn.ensures.refused))
 
 pub returns-in-Reopen-clause-done : goal.returns-in-Reopen-clause-done
 returns-in-Reopen-clause-done g c =
@@ -70,15 +70,14 @@ returns-in-Reopen-clause-failed g c =
     IfErr-weaker c.reopen.result _ _
     (λ error fails. fails_alone c.args.context.now.shards.now (worker c.args.session.now c.args.seat.now c.args.context.now.number c.args.context.now.moment) c.reopen.new.seat c.args.action error (written (g.W.Write.contents c.args.output.now) c.args.writes.now) (written (g.W.Write.contents c.args.output.now) c.args.writes.now) fails)
     (table_refuses c.args.context.now.shards.now (is_staying c.args.session.now.manner) c.args.context.now.number c.args.context.now.moment c.args.session.now.session c.args.seat.now c.reopen.new.seat c.args.action (actions.Reopen c.in-Reopen.table) (written (g.W.Write.contents c.args.output.now) c.args.writes.now) c.reopen.result c.in-Reopen.is tt
-    (subst (λ (v : Version). IfErr c.reopen.result (IsRefusal (IsUnopened c.args.context.now.shards.now c.args.context.now.number v c.args.seat.now c.in-Reopen.table c.reopen.new.seat))) (c.opened_with.ensures ∙ ap opened_with c.version.ensures) c.reopen.ensures.refused)
-    c.reopen.ensures.left)
+    (subst (λ (v : Version). IfErr c.reopen.result (IsRefusal ((c.reopen.new.seat ≡ c.args.seat.now) ⊎ CallsClose c.args.context.now.number c.args.seat.now c.in-Reopen.table (Ok tt) c.reopen.new.seat) (IsUnopened c.args.context.now.shards.now c.args.context.now.number v c.args.seat.now c.in-Reopen.table c.reopen.new.seat))) (c.opened_with.ensures ∙ ap opened_with c.version.ensures) c.reopen.ensures.refused))
 
 pub returns-in_err-answer-in-Ack-clause-failed : goal.returns-in_err-answer-in-Ack-clause-failed
 returns-in_err-answer-in-Ack-clause-failed g c =
     let p = err_from_is_err_and c.from_residual.result c.from_residual.ensures.1 in
     rw (p.1, p.2)
     (fails_alone c.args.context.now.shards.now (worker c.args.session.now c.args.seat.now c.args.context.now.number c.args.context.now.moment) c.acknowledge.new.seat c.args.action c.in_err-answer-in-Ack.field-0.0 (written (g.W.Write.contents c.args.output.now) c.args.writes.now) (written (g.W.Write.contents c.args.output.now) c.args.writes.now)
-    (call_refused c.args.context.now.shards.now (is_staying c.args.session.now.manner) c.args.context.now.number c.args.context.now.moment c.args.session.now.session c.args.seat.now c.acknowledge.new.seat c.args.action (actions.Ack c.in-Ack.table c.in-Ack.number) (written (g.W.Write.contents c.args.output.now) c.args.writes.now) c.in_err-answer-in-Ack.field-0.0 c.in-Ack.is tt c.in_err-answer-in-Ack.ensures.refused c.in_err-answer-in-Ack.ensures.stays))
+    (call_refused c.args.context.now.shards.now (is_staying c.args.session.now.manner) c.args.context.now.number c.args.context.now.moment c.args.session.now.session c.args.seat.now c.acknowledge.new.seat c.args.action (actions.Ack c.in-Ack.table c.in-Ack.number) (written (g.W.Write.contents c.args.output.now) c.args.writes.now) c.in_err-answer-in-Ack.field-0.0 c.in-Ack.is tt c.in_err-answer-in-Ack.ensures.refused))
 
 pub returns-in_ok-answer-in-Ack-clause-done : goal.returns-in_ok-answer-in-Ack-clause-done
 returns-in_ok-answer-in-Ack-clause-done g c =
@@ -100,7 +99,7 @@ returns-in_err-answer-in-Copy-clause-failed g c =
     rw (p.1, p.2)
     (fails_alone c.args.context.now.shards.now (worker c.args.session.now c.args.seat.now c.args.context.now.number c.args.context.now.moment) c.copy_batch.new.seat c.args.action c.in_err-answer-in-Copy.field-0.0 (written (g.W.Write.contents c.args.output.now) c.args.writes.now) (written (g.W.Write.contents c.args.output.now) c.args.writes.now)
     (call_refused c.args.context.now.shards.now (is_staying c.args.session.now.manner) c.args.context.now.number c.args.context.now.moment c.args.session.now.session c.args.seat.now c.copy_batch.new.seat c.args.action (actions.Copy c.in-Copy.table c.in-Copy.kind) (written (g.W.Write.contents c.args.output.now) c.args.writes.now) c.in_err-answer-in-Copy.field-0.0 c.in-Copy.is tt
-    (subst (λ (b : Bool). IsRefusal (IsUncopied c.args.context.now.shards.now (moment_at b c.args.context.now.moment) c.args.context.now.number c.args.seat.now c.in-Copy.table c.in-Copy.kind c.copy_batch.new.seat) c.in_err-answer-in-Copy.field-0.0) c.stays-stays.ensures c.in_err-answer-in-Copy.ensures.refused) c.in_err-answer-in-Copy.ensures.stays))
+    (subst (λ (b : Bool). IsRefusal (c.copy_batch.new.seat ≡ c.args.seat.now) (IsUncopied c.args.context.now.shards.now (moment_at b c.args.context.now.moment) c.args.context.now.number c.args.seat.now c.in-Copy.table c.in-Copy.kind c.copy_batch.new.seat) c.in_err-answer-in-Copy.field-0.0) c.stays-stays.ensures c.in_err-answer-in-Copy.ensures.refused)))
 
 pub returns-in_ok-answer-in-Copy-clause-done : goal.returns-in_ok-answer-in-Copy-clause-done
 returns-in_ok-answer-in-Copy-clause-done g c =

@@ -9,17 +9,13 @@ returns-clause-closed g c =
 
 pub returns-clause-refused : goal.returns-clause-refused
 returns-clause-refused g c =
-    refused_weaker c.close_end.result (λ refuses. inr refuses)
+    refused_weaker c.close_end.result (λ left. left) (λ refuses. inr refuses)
     (close_ends c.args.context.now.number c.args.seat.now c.close_session.new.seat c.args.table c.close_session.result c.close_end.result c.close_end.ensures (c.deref_mut-locked.result.now, c.note_sound.ensures, c.close_session.new.locked, c.close_session.ensures)).1
-
-pub returns-clause-stays : goal.returns-clause-stays
-returns-clause-stays g c =
-    (close_ends c.args.context.now.number c.args.seat.now c.close_session.new.seat c.args.table c.close_session.result c.close_end.result c.close_end.ensures (c.deref_mut-locked.result.now, c.note_sound.ensures, c.close_session.new.locked, c.close_session.ensures)).2
 
 pub returns-in_err-guard-clause-refused : goal.returns-in_err-guard-clause-refused
 returns-in_err-guard-clause-refused g c =
     let p = err_from_is_err_and c.from_residual.result c.from_residual.ensures.1 in
-    rw (p.1, p.2) (refusal_weaker (λ missing. inl (missing, refl)) c.in_err-guard.field-0.0 c.in_err-guard.ensures.refused)
+    rw (p.1, p.2) (refusal_weaker (λ never. absurd never) (λ missing. inl (missing, refl)) c.in_err-guard.field-0.0 c.in_err-guard.ensures.refused)
 
 pub returns-clause-seat : goal.returns-clause-seat
 returns-clause-seat g c =

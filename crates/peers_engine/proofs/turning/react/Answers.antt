@@ -83,6 +83,12 @@ returns-clause-idle g c = λ is.
       | else-may_idle w ↦ absurd (false≢true (sym w.if-may_idle.false ∙ (sym w.is_idle-is ∙ idle)))
     ]
 
+pub returns-in_err-second-clause-refused : goal.returns-in_err-second-clause-refused
+returns-in_err-second-clause-refused g c = λ why some is. let bad : ⊥ = cc (sym c.in_ok-first.was ∙ c.on.ensures.exactly why some is) in absurd bad
+
+pub returns-in_err-third-clause-refused : goal.returns-in_err-third-clause-refused
+returns-in_err-third-clause-refused g c = λ why some is. let bad : ⊥ = cc (sym c.in_ok-first.was ∙ c.on.ensures.exactly why some is) in absurd bad
+
 pub returns-in_err-fourth-clause-refused : goal.returns-in_err-fourth-clause-refused
 returns-in_err-fourth-clause-refused g c = λ why some is. let bad : ⊥ = cc (sym c.in_ok-first.was ∙ c.on.ensures.exactly why some is) in absurd bad
 

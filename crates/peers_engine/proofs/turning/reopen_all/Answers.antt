@@ -17,4 +17,4 @@ returns-in_err-reopen-clause-left g c =
     let p = err_from_is_err_and c.from_residual.result c.from_residual.ensures.1 in
     rw (p.1, p.2)
     (c.loop-table.invariant.left c.in_err-reopen.field-0.0 c.reopen.new.seat
-    (not_reopened_here c.args.context.now.shards.now c.args.context.now.number c.args.version c.loop-table.seat c.reopen.new.seat c.args.tables.now c.loop-table.table-index _ c.in_err-reopen.field-0.0 c.loop-table-test.true c.in_err-reopen.ensures.refused c.in_err-reopen.ensures.left))
+    (not_reopened_here c.args.context.now.shards.now c.args.context.now.number c.args.version c.loop-table.seat c.reopen.new.seat c.args.tables.now c.loop-table.table-index _ c.in_err-reopen.field-0.0 c.loop-table-test.true c.in_err-reopen.ensures.refused))

@@ -20,7 +20,7 @@ loop-key-init c =
       none_done (update_of c.args.progress.version c.args.self.now.definition c.args.now) c.new-updates.result.items c.args.limit (filter (is_chosen c.args.kind c.args.progress.bound c.args.now) c.into_iter-key-iterator.result)
           (filter (is_unacked c.args.kind c.args.progress.acknowledged c.args.now) (in_reach c.args.kind c.args.progress.bound c.args.self.now.rows)) c.new-updates.ensures.items
           (ap (filter (is_chosen c.args.kind c.args.progress.bound c.args.now)) is ∙ chosen_above c.args.kind c.args.progress.bound c.copy_start.result c.args.now c.args.self.now.rows
-          ∙ sym (reach_same c.args.kind c.args.progress.bound (is_unacked c.args.kind c.args.progress.acknowledged c.args.now) (is_unacked c.args.kind c.copy_start.result c.args.now) c.args.self.now.rows c.copy_start.ensures)),
+          ∙ sym (reach_same c.args.kind c.args.progress.bound (is_unacked c.args.kind c.args.progress.acknowledged c.args.now) (is_unacked c.args.kind c.copy_start.result c.args.now) c.args.self.now.rows c.copy_start.ensures.same)),
       subst (λ (l : List (Key × StoredRow)). AllByRecursion (EntryFits c.args.self.now.definition c.args.now) l) (sym is)
           (all_filter (EntryFits c.args.self.now.definition c.args.now) (is_above c.copy_start.result) c.args.self.now.rows (later_sound c.args.self.now c.args.now c.requires.sound c.requires.later)),
     )

@@ -1,0 +1,286 @@
+"""A node under a clock of the check's own, which stands still until the check moves it: what comes due comes at its millisecond and not
+before it. A thread that waits for a time waits by the system's clock, for as long as was left when it began to."""
+
+import contextlib
+import mmap
+import os
+import shutil
+import struct
+import subprocess
+import tempfile
+import threading
+import time
+
+from fuzzing.messages import acknowledgement
+from peering.far import CONFIRMED, FINISHED, HEARTBEAT, PARTIAL, REQUEST, Manners, connected
+from peering.node import T1, Admin, Node
+from peering.trial import Skipped, check, equal, require, wait
+from staying.logs import refused
+from staying.measures import lag_of, lags
+from staying.ports import Folder, Metered, Wire
+from staying.requests import answer_to
+from staying.resyncs import long_rows, tracked
+from staying.sessions import KEEPS_QUIET, up_to_date
+
+# Where the clock stands when a node begins, in ms: so that its own start isn't the clock's.
+BEGIN = 70_000
+# The longest that a session waits before it looks at the clock, in s.
+SOON = 3.5
+SILENT = Manners(beats=False)
+
+
+class Clock:
+    """A clock, of which a node learns by its environment."""
+
+    def __init__(self):
+        self.directory = tempfile.TemporaryDirectory()
+        self.name = os.path.join(self.directory.name, 'milliseconds')
+        self.library = os.path.join(self.directory.name, 'clock.so')
+        source = os.path.join(os.path.dirname(os.path.abspath(__file__)), 'clock.c')
+        subprocess.run(['cc', '-shared', '-fPIC', '-O1', '-o', self.library, source], check=True)
+        with open(self.name, 'w+b') as file:
+            file.truncate(mmap.PAGESIZE)
+            self.there = mmap.mmap(file.fileno(), 0)
+
+    def set(self, milliseconds):
+        self.there[:8] = struct.pack('=q', milliseconds)
+
+    def close(self):
+        self.there.close()
+        self.directory.cleanup()
+
+
+class Clocked(Metered):
+    """A node with such a clock."""
+
+    def __init__(self, trial, **other):
+        if shutil.which('cc') is None:
+            raise Skipped('there is no cc')
+        super().__init__(trial, **other)
+        self.clock = trial.closes(Clock())
+        self.clock.set(BEGIN)
+        self.environment = {**os.environ, 'LD_PRELOAD': self.clock.library, 'CLOCK': self.clock.name}
+
+    def at(self, milliseconds):
+        """Sets the clock to so many ms after the node began."""
+        self.clock.set(BEGIN + milliseconds)
+
+
+def passes(node, first, last, step=500):
+    """Has a time pass while sessions are lively, which look at the clock every 100 ms: without a jump of a second, which puts a tick off."""
+    for moment in [*range(first, last, step), last]:
+        node.at(moment)
+        time.sleep(0.4)
+
+
+@check
+def clock_heartbeats(trial):
+    """a session sends a heartbeat 3,000 ms after its last message, and ends as silent 10,000 ms after the last byte that came, not a ms sooner"""
+    node = Clocked(trial, tables=(T1,)).start()
+    far = connected(trial, node, manners=SILENT)
+    far.gets(CONFIRMED, 2)
+    up_to_date(node)
+    passes(node, 500, 2_999)
+    for count in (1, 2, 3):
+        node.at(3_000 * count - 1)
+        time.sleep(SOON)
+        equal(far.count(HEARTBEAT), count - 1, 'heartbeats a ms before the next one')
+        node.at(3_000 * count)
+        far.gets(HEARTBEAT, SOON, count)
+    node.at(9_999)
+    time.sleep(SOON)
+    far.stands()
+    node.at(10_000)
+    far.ends(SOON)
+    wait(lambda: node.peer('b')['last_end'] == 'silent', 2, 'the end is silent', lambda: node.peer('b'))
+
+
+@check
+def clock_jumps(trial):
+    """a node that finds 30 s gone at once gives its sessions another second: one of which a byte comes then stays, one without ends"""
+    node = Clocked(trial, peers=('b', 'c'), tables=(T1,)).start()
+    mute = connected(trial, node, 'b', SILENT)
+    lively = connected(trial, node, 'c', SILENT)
+    up_to_date(node)
+    passes(node, 500, 3_000)
+    for far in (mute, lively):
+        far.gets(HEARTBEAT, SOON)
+    node.at(33_000)
+    time.sleep(SOON)
+    lively.send(HEARTBEAT)
+    wait(lambda: node.peer('c')['heartbeats_received'] == '1', 2, 'the heartbeat is read')
+    node.at(33_999)
+    time.sleep(SOON)
+    mute.stands()
+    node.at(34_000)
+    mute.ends(SOON)
+    node.at(42_999)
+    time.sleep(SOON)
+    lively.stands()
+    equal([node.peer(name)['last_end'] for name in 'bc'], ['silent', '-'], 'the ends')
+
+
+@check
+def clock_of_a_mute_peer(trial):
+    """a peer that was asked is waited for for 5,000 ms, and asked again 60,000 ms after it was asked, not a ms sooner"""
+    node = Clocked(trial, peers=('b', 'c'), tables=(T1,)).start()
+    first = connected(trial, node, 'b', KEEPS_QUIET)
+    first.gets(REQUEST, SOON)
+    second = connected(trial, node, 'c', KEEPS_QUIET)
+    passes(node, 500, 4_999)
+    time.sleep(1)
+    equal((second.count(REQUEST), node.logged('unanswered')), (0, []), 'requests to the other one, and lines, a ms before')
+    node.at(5_000)
+    node.logs('unanswered', peer='b')
+    second.gets(REQUEST, SOON)
+    passes(node, 5_500, 9_999)
+    equal(node.logged('unanswered', peer='c'), [], 'lines a ms before')
+    node.at(10_000)
+    node.logs('unanswered', peer='c')
+    node.at(59_999)
+    time.sleep(SOON)
+    equal((first.count(REQUEST), second.count(REQUEST)), (1, 1), 'requests a ms before')
+    node.at(60_000)
+    first.gets(REQUEST, SOON, 2)
+    passes(node, 60_500, 64_999)
+    equal(second.count(REQUEST), 1, 'requests to the other one a ms before')
+    node.at(65_000)
+    second.gets(REQUEST, SOON, 2)
+    second.send(FINISHED)
+    up_to_date(node)
+
+
+@check
+def clock_of_those_away(trial):
+    """a node some of whose peers are away, and the others partial, is up to date 5,000 ms after its start, not a ms sooner"""
+    node = Clocked(trial, peers=('b', 'c'), tables=(T1,)).start()
+    connected(trial, node, 'b', Manners(answer=PARTIAL)).gets(CONFIRMED, SOON)
+    node.at(4_999)
+    time.sleep(1)
+    equal(node.is_up_to_date(), False, 'up to date a ms before')
+    node.at(5_000)
+    wait(node.is_up_to_date, 1, 'the node is up to date', node.said)
+
+
+@check
+def clock_of_resyncs(trial):
+    """a peer that asks again is taught 1,000 ms after its last resync began, not a ms sooner"""
+    node = Clocked(trial, tables=(T1,)).start()
+    far = connected(trial, node)
+    up_to_date(node)
+    node.at(900)
+    far.send(REQUEST)
+    far.gets(FINISHED, SOON)
+    far.send(REQUEST)
+    node.at(1_899)
+    time.sleep(1)
+    equal(far.count(FINISHED), 1, 'ends a ms before')
+    node.at(1_900)
+    far.gets(FINISHED, SOON, 2)
+
+
+@check
+def clock_of_idle_clients(trial):
+    """a connection without a request is closed after 60,000 ms, at both ports, not a ms sooner"""
+    node = Clocked(trial, tables=(T1,)).start()
+    idle = [trial.closes(Admin(port, node.host)) for port in (node.admin_port, node.metrics_port)]
+    time.sleep(0.5)
+    node.at(59_999)
+    time.sleep(1)
+    equal([client.is_over() for client in idle], [False, False], 'which are over a ms before')
+    node.at(60_000)
+    wait(lambda: all(client.is_over() for client in idle), 2, 'both are over')
+
+
+def slow_readers(trial, path, count):
+    """Has clients of a socket ask for more than the system keeps for them, of which each then reads a little again and again."""
+    clients = []
+    for _ in range(count):
+        clients.append(trial.closes(Wire(path)).peer)
+        clients[-1].sendall(b'show rows\n' * 100)
+        time.sleep(0.01)
+
+    def play():
+        while any(client.fileno() >= 0 for client in clients):
+            time.sleep(0.1)
+            for client in clients:
+                with contextlib.suppress(OSError):
+                    client.recv(1 << 13)
+    for client in clients:
+        client.settimeout(0.01)
+    threading.Thread(target=play, daemon=True).start()
+
+
+@check
+def clock_of_slow_clients(trial):
+    """of 32 clients that take their answers slowly the one answered longest makes room for another after 60,000 ms, not a ms sooner"""
+    path = Folder(trial).path()
+    node = Clocked(trial, peers=(), tables=('table 1 long string 8192 0 gpc0',), more=('admin unix:' + path,)).start()
+    long_rows(node, 64)
+    node.admins.close()
+    time.sleep(0.2)
+    slow_readers(trial, path, 32)
+    time.sleep(1)
+    node.at(59_999)
+    equal(answer_to(node, 'get long =k\n'), b'busy\n', 'the answer to one more a ms before')
+    node.at(60_000)
+    equal([node.admin().ask('get long =k') for _ in range(3)], ['none'] * 3, 'the answers to three more')
+    equal(node.admin().ask('stop'), 'ok', 'the answer to stop')
+    equal(node.child.wait(5), 0, 'the status')
+
+
+@check
+def clock_of_lags(trial):
+    """the count of more than 32,000 rows that a peer lacks is shown for 5,000 ms, not a ms longer, and one of fewer is always new"""
+    node = Clocked(trial, tables=(T1, 'table 2 t2 integer 4 0 gpc0')).start()
+    far = connected(trial, node)
+    up_to_date(node)
+    node.at(500)
+    for name in ('t1', 't2'):
+        node.ask('track %s 0 add gpc0 1' % name)
+        wait(lambda name=name: node.shared('b', name)['acknowledged'] == '1', 3, 'a row is acknowledged')
+    far.manners = Manners(acks='none')
+    for name, count in (('t1', 33_500), ('t2', 1_000)):
+        tracked(node, name, range(1, count + 1))
+        equal(lags(node, 'b', name)[0], count, 'the lag in ' + name)
+    far.manners = Manners()
+    for at in (1, 2):
+        far.send(acknowledgement(at, [one.number for one in far.updates('t%d' % at)][-1]))
+    for name, count in (('t1', 33_501), ('t2', 1_001)):
+        wait(lambda: node.shared('b', name)['acknowledged'] == str(count), 20, 'all is acknowledged')
+    node.at(5_499)
+    equal((lags(node, 'b', 't1')[0], lags(node, 'b', 't2')[0]), (33_500, 0), 'the lags a ms before')
+    node.at(5_500)
+    equal((lags(node, 'b', 't1')[0], lag_of(node)), (0, 0), 'the lags')
+
+
+@check
+def clock_of_rows(trial):
+    """a row lives until its end, that ms excluded; a lone event is shown as 1 until two periods are over, that ms included"""
+    node = Clocked(trial, peers=(), tables=('table 1 ends integer 4 10000 gpc0', 'table 2 rates integer 4 0 http_req_rate:10000')).start()
+    node.ask('track ends 7 add gpc0 1')
+    node.ask('track rates 7 rate http_req_rate 1')
+    node.at(9_999)
+    equal(node.ask('get ends 7'), 'row 1 %d 7 1' % (2 ** 32 + 10_000), 'the row a ms before its end')
+    node.at(10_000)
+    equal(node.ask('get ends 7'), 'none', 'the row at its end')
+    for moment, shown in ((10_000, 1), (10_001, 1), (20_000, 1), (20_001, 0)):
+        node.at(moment)
+        _, line = node.ask('show table rates')
+        require(line.endswith(' http_req_rate(10000)=%d' % shown), 'the rate after %d ms:' % moment, line)
+
+
+@check
+def clock_of_the_log(trial):
+    """of one event the log has five lines until a second is over, and says then how many were left out"""
+    node = Clocked(trial, tables=(T1,)).start()
+    for number in range(12):
+        equal(refused(node, 'n', 's%d' % number), b'504\n', 'the status')
+    node.at(999)
+    time.sleep(1.5)
+    equal((len(node.logged('hello-refused')), node.logged('omitted')), (5, []), 'lines, and what was left out, a ms before')
+    node.at(1_000)
+    said, = node.logs('omitted', seconds=SOON, of='hello-refused')
+    equal(said.keys['count'], '7', 'lines that were left out')
+    refused(node, 'n', 's12')
+    equal(len(node.logs('hello-refused', times=6)), 6, 'lines')

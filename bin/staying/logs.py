@@ -1,0 +1,346 @@
+"""What the log of a node that stays says, and that whoever reads it holds nothing up."""
+
+import hashlib
+import os
+import re
+import time
+from datetime import datetime, timezone
+
+from peering.far import FINISHED, REQUEST, Door, Manners, connected, hello, kept_open, status_of
+from peering.lessons import definition, update
+from peering.node import T1, Node, address
+from peering.trial import Skipped, between, check, equal, matches, require, wait
+from staying.sessions import KEEPS_QUIET, T1_THERE, node_of_b, up_to_date
+
+
+def events(node, *left_out):
+    """Returns the events of the log in order, but for some."""
+    return [said.event for said in node.logged() if said.event not in left_out]
+
+
+def refused(node, to, name):
+    """Returns the status that answers a hello."""
+    peer = node.trial.closes(kept_open((node.host, node.port)))
+    peer.sendall(hello(to, name))
+    return status_of(peer)
+
+
+# --- What it says
+
+@check
+def log_of_a_start(trial):
+    """the log says the version, the configuration's SHA-256 checksum and the ports at the start, each line with the time in UTC, and the stop"""
+    node = node_of_b(trial)
+    start, = node.logs('start')
+    equal((start.level, start.keys['config'], start.keys['node']),
+          ('info', hashlib.sha256(node.configuration.encode()).hexdigest(), 'n'), 'the start')
+    matches(r'[0-9]+\.[0-9]+\.[0-9]+', start.keys['version'], 'the version')
+    ports = [(said.keys['port'], said.keys['address']) for said in node.logs('listening', 2)]
+    equal(ports, [('peers', address(node.port)), ('admin', address(node.admin_port))], 'the ports')
+    said = datetime.strptime(start.time, '%Y-%m-%dT%H:%M:%S.%fZ').replace(tzinfo=timezone.utc)
+    between(-5, (datetime.now(timezone.utc) - said).total_seconds(), 10, 'seconds since the start by its line')
+    node.stop()
+    equal(events(node), ['start', 'listening', 'listening', 'stop'], 'events')
+
+
+@check
+def log(trial):
+    """the log says each change of a session: its begin, who was asked, the ends of resyncs with their rows and ms, and its end"""
+    node = node_of_b(trial)
+    far = connected(trial, node, manners=KEEPS_QUIET)
+    far.gets(REQUEST, 2)
+    far.send(definition(T1_THERE) + update(T1_THERE, 1, 7, (5,)) + update(T1_THERE, 2, 8, (5,)))
+    time.sleep(0.2)
+    far.send(FINISHED)
+    up_to_date(node)
+    far.gets_ack(77, 2)
+    far.send(REQUEST)
+    far.gets(FINISHED, 2)
+    far.close()
+    node.logs('ended', peer='b', end='end')
+    equal(events(node, 'start', 'listening', 'unshared', 'undefined'),
+          ['connected', 'asked', 'resync-ended', 'resync-ended', 'ended'], 'events')
+    begun, = node.logged('connected')
+    matches(r'127\.0\.0\.1:[0-9]+', begun.keys['address'], 'the address')
+    equal((begun.level, begun.keys['role'], begun.keys['protocol']), ('info', 'accept', '2.1'), 'the begin of the session')
+    learned, taught = node.logged('resync-ended')
+    equal([(said.keys['role'], said.keys['end'], said.keys['rows']) for said in (learned, taught)],
+          [('learner', 'finished', '2'), ('teacher', 'finished', '2')], 'the resyncs')
+    between(190, int(learned.keys['ms']), 2000, 'ms of the resync')
+    equal({said.keys['address'] for said in node.logged(peer='b')}, {begun.keys['address']}, 'addresses')
+
+
+@check
+def log_of_a_table_left(trial):
+    """the log says once a connection that a table was left, by its name"""
+    node = node_of_b(trial, tables=(T1,))
+    far = connected(trial, node, manners=Manners(acks='none'))
+    up_to_date(node)
+    node.ask('track t1 7 add gpc0 1')
+    wait(lambda: node.shared('b', 't1')['left'] == 'yes', 5, 'the table is left')
+    node.ask('track t1 8 add gpc0 1')
+    time.sleep(2.5)
+    far.close()
+    node.logs('ended', peer='b')
+    equal([(said.level, said.keys['table']) for said in node.logged('left', peer='b')], [('warn', 't1')], 'lines about tables left')
+
+
+@check
+def log_of_rows_passed_over(trial):
+    """the log has no line for rows that are passed over"""
+    node = node_of_b(trial)
+    far = connected(trial, node)
+    time.sleep(0.4)
+    before = node.said().count(b'\n')
+    out_of_range = b''.join(update(T1_THERE, number, 123456789, (2 ** 32,)) for number in range(1, 301))
+    far.send(definition(T1_THERE) + out_of_range + update(T1_THERE, 301, 8, (1,)))
+    far.gets_ack(77, 301)
+    time.sleep(0.3)
+    equal(node.said().count(b'\n'), before, 'lines')
+    require(b'123456789' not in node.said(), 'no key is named', node.said())
+
+
+@check
+def log_for_the_journal(trial):
+    """with `log journal` a line begins with its level's number for systemd's journal, and has no time"""
+    node = Node(trial, more=('log journal',)).start()
+    node.logs('start')
+    require(node.said().startswith(b'<6>event=start '), 'the first line:', node.said())
+
+
+@check
+def log_of_a_level(trial):
+    """with `log warn` the log has lines of that level and of those above it alone"""
+    node = Node(trial, peers=('b ' + address(trial.ports.next()),), more=('log warn',)).start()
+    node.logs('unreachable', peer='b')
+    equal({said.level for said in node.logged()}, {'warn'}, 'levels')
+
+
+# --- Why there is no session
+
+@check
+def log_of_a_peer_that_is_not_there(trial):
+    """a peer that can't be connected to is named once, with its address and the system's reason"""
+    port = trial.ports.next()
+    node = Node(trial, peers=('b ' + address(port),)).start()
+    node.logs('unreachable', peer='b')
+    wait(lambda: node.peer('b')['last_error'] == 'unreachable', 2, 'the last error', lambda: node.peer('b'))
+    time.sleep(6)
+    first, second = node.logged('connecting') + node.logged('unreachable')
+    equal({said.keys['address'] for said in (first, second)}, {address(port)}, 'addresses')
+    equal((first.level, second.level), ('info', 'warn'), 'levels')
+    require('Connection refused' in second.sentence, 'the reason:', second.sentence)
+
+
+@check
+def log_of_a_status(trial):
+    """a status that refuses the node is said once, with what repairs it, and again once it changes; a session is said to begin then"""
+    statuses = [b'504\n', b'504\n', b'503\n', b'200\n']
+    door = Door(trial, status=lambda said: statuses.pop(0) if len(statuses) > 1 else statuses[0])
+    node = Node(trial, peers=('b ' + address(door.port),)).start()
+    unknown, = node.logs('refused', peer='b', status=504)
+    require('add "peer n .." there' in unknown.sentence, 'what repairs it:', unknown.sentence)
+    wait(lambda: node.peer('b')['last_error'] == 'refused-504', 2, 'the last error', lambda: node.peer('b'))
+    other, = node.logs('refused', seconds=12, peer='b', status=503)
+    require("isn't named b there" in other.sentence, 'what is wrong:', other.sentence)
+    node.logs('connected', seconds=6, peer='b', role='connect')
+    equal(node.peer('b')['last_error'], '-', 'the last error of a session')
+    equal(events(node, 'start', 'listening')[:4], ['connecting', 'refused', 'refused', 'connected'], 'events')
+
+
+@check
+def log_of_a_peer_that_says_nothing(trial):
+    """a connection that ends before a session begins is said once"""
+    door = Door(trial, status=b'')
+    node = Node(trial, peers=('b ' + address(door.port),)).start()
+    door.tried(1)
+    ended = node.logs('ended', seconds=13, peer='b')
+    equal([(said.keys['end'], 'before a session began' in said.sentence) for said in ended], [('silent', True)], 'lines about the end')
+
+
+@check
+def log_of_a_hello_refused(trial):
+    """a hello that the node refuses is said once for each host, name and status, with its address; names that would read as more in hexadecimal"""
+    node = node_of_b(trial)
+    for _ in range(2):
+        equal([refused(node, *names) for names in (('n', 'stranger'), ('n', 'str:anger'), ('other', 'b'), ('n', 'x\x01'))],
+              [b'504\n', b'504\n', b'503\n', b'504\n'], 'the statuses')
+    peer = trial.closes(kept_open((node.host, node.port)))
+    peer.sendall(b'GET / HTTP/1.1\n\n\n')
+    equal(status_of(peer), b'501\n', 'the status of what is no hello')
+    node.logs('hello-refused', status=501)
+    said = node.logged('hello-refused')
+    equal(sorted((each.keys['status'], each.keys.get('peer', '-')) for each in said),
+          [('501', '-'), ('503', 'b'), ('504', '0x7374723A616E676572'), ('504', '0x7801'), ('504', 'stranger')], 'the lines')
+    for each in said:
+        matches(r'127\.0\.0\.1:[0-9]+', each.keys['address'], 'the address')
+    other, = node.logged('hello-refused', peer='b')
+    require('"peer n .."' in other.sentence, 'what repairs it:', other.sentence)
+    equal(node.peer('b')['last_error'], 'hello-refused-503', 'the last error')
+    node.shows('digbaro_hellos_refused_total{status="504"}', 6)
+    node.shows('digbaro_hellos_refused_total{status="503"}', 2)
+    connected(trial, node)
+    equal(node.peer('b')['last_error'], '-', 'the last error of a session')
+
+
+@check
+def peer_from_elsewhere(trial):
+    """a hello of a peer that may not come from where it comes is answered 504, and one from where it may is taken"""
+    node = node_of_b(trial, peers=('b from 10.0.0.0/8', 'c from 10.0.0.0/8 127.0.0.0/8'))
+    equal((refused(node, 'n', 'b'), refused(node, 'n', 'c')), (b'504\n', b'200\n'), 'the statuses')
+    said, = node.logs('hello-refused', peer='b', status=504)
+    require('from' in said.sentence, 'why:', said.sentence)
+
+
+# --- How much it says
+
+@check
+def five_lines_a_second(trial):
+    """of one event about one peer, or about strangers, at most five lines a second are written, and then how many were left out"""
+    node = node_of_b(trial)
+    begun = time.monotonic()
+    for number in range(30):
+        equal(refused(node, 'n', 's%d' % number), b'504\n', 'the status')
+    if time.monotonic() - begun > 0.9:
+        raise Skipped('the host was too slow for so many hellos in a second')
+    omitted = node.logs('omitted', seconds=4, of='hello-refused')
+    said = node.logged('hello-refused')
+    equal((len(said), sum(int(each.keys['count']) for each in omitted)), (5, 25), 'the lines, and those left out')
+    time.sleep(1)
+    refused(node, 'n', 's31')
+    node.logs('hello-refused', peer='s31')
+
+
+@check
+def strangers_named_later(trial):
+    """a stranger whose line was left out among those of others is named when it comes again, and then once"""
+    node = node_of_b(trial)
+    begun = time.monotonic()
+    for number in range(7):
+        equal(refused(node, 'n', 's%d' % number), b'504\n', 'the status')
+    if time.monotonic() - begun > 0.9:
+        raise Skipped('the host was too slow for so many hellos in a second')
+    time.sleep(1.1)
+    for _ in range(2):
+        refused(node, 'n', 's5')
+    node.logs('hello-refused', peer='s5')
+    refused(node, 'n', 's6')
+    node.logs('hello-refused', peer='s6')
+    equal(len(node.logged('hello-refused')), 7, 'lines about hellos')
+
+
+# --- Who reads it
+
+def full_pipe(trial):
+    """Returns the path of a pipe that is full and that nobody reads, and the end at which it could be read."""
+    path = os.path.join('/tmp', 'log-%d-%d' % (os.getpid(), trial.ports.next()))
+    os.mkfifo(path)
+    pipe = os.open(path, os.O_RDWR | os.O_NONBLOCK)
+    try:
+        while True:
+            os.write(pipe, b'x' * 4096)
+    except BlockingIOError:
+        return path, pipe
+
+
+def read_end(path):
+    """Returns the end of a pipe at which it can be read, without waiting for what isn't there."""
+    return os.fdopen(os.open(path, os.O_RDONLY | os.O_NONBLOCK), 'rb', 0)
+
+
+def written_to(trial, target, **other):
+    """Returns a node whose standard error is what a shell opens by these words."""
+    node = Node(trial, **other)
+    node.within = ('sh', '-c', 'exec "$@" ' + target, 'sh')
+    return node.start()
+
+
+@check
+def blocked_log(trial):
+    """a standard error that nobody reads holds nothing up: requests, sessions and the stop"""
+    path, pipe = full_pipe(trial)
+    try:
+        node = written_to(trial, '2>' + path)
+        far = connected(trial, node)
+        up_to_date(node)
+        equal(node.ask('track t1 7 add gpc0 1').split(' ')[0], 'reply', 'the answer')
+        far.gets_row('t1', 7, (1,))
+        require(node.stop() < 5, 'the node stops within 5 s')
+    finally:
+        os.close(pipe)
+        os.remove(path)
+
+
+@check
+def log_read_late(trial):
+    """lines that wait are written once standard error is read again, and those for which there was no room are counted"""
+    path, pipe = full_pipe(trial)
+    # Long names make long lines.
+    names = ['p%02d%s' % (number, 'x' * 200) for number in range(15)]
+    try:
+        node = written_to(trial, '2>' + path, peers=names)
+        for number in range(400):
+            connected(trial, node, names[number % 15]).close()
+            if number % 15 == 0 and node.metric('digbaro_log_lines_dropped_total') > 0:
+                break
+        require(node.metric('digbaro_log_lines_dropped_total') > 0, 'lines are dropped')
+        came = b''
+        latest = time.monotonic() + 5
+        while b'event=omitted count=' not in came and time.monotonic() < latest:
+            try:
+                came += os.read(pipe, 1 << 16)
+            except BlockingIOError:
+                connected(trial, node, names[0]).close()
+        require(b'event=start' in came and b'event=omitted count=' in came, 'the log, once it is read:', came[-600:])
+        node.stop()
+    finally:
+        os.close(pipe)
+        os.remove(path)
+
+
+@check
+def log_that_fails(trial):
+    """a node whose standard error takes nothing goes on, and counts the lines that are dropped"""
+    node = written_to(trial, '2>/dev/full')
+    node.shows('digbaro_log_lines_dropped_total', 3)
+    time.sleep(3.5)
+    equal(node.metric('digbaro_log_lines_dropped_total'), 3, 'lines dropped while nothing happens')
+    connected(trial, node)
+    up_to_date(node)
+    node.stop()
+
+
+@check
+def log_that_fails_for_a_while(trial):
+    """all lines that a standard error didn't take are counted, once, and their number is said as soon as it takes lines again"""
+    path = os.path.join('/tmp', 'log-%d-%d' % (os.getpid(), trial.ports.next()))
+    os.mkfifo(path)
+    pipe = trial.closes(read_end(path))
+    try:
+        node = Node(trial)
+        node.within = ('sh', '-c', "trap '' PIPE; exec \"$@\" 2>" + path, 'sh')
+        node.start()
+        wait(lambda: b' port=admin ' in (pipe.read(1 << 16) or b''), 5, 'the log has its last line of the start', pause=0.3)
+        pipe.close()
+        for number in range(5):
+            refused(node, 'n', 's%d' % number)
+        node.shows('digbaro_log_lines_dropped_total', 5)
+        time.sleep(3.5)
+        pipe = trial.closes(read_end(path))
+        time.sleep(1.5)
+        equal(re.findall(rb' event=omitted (.*?): ', pipe.read(1 << 16) or b''), [b'count=5'], 'how many lines were dropped, as the log says')
+        equal(node.metric('digbaro_log_lines_dropped_total'), 5, 'lines dropped')
+        node.stop()
+    finally:
+        os.remove(path)
+
+
+@check
+def closed_log(trial):
+    """a node whose standard error is closed goes on, and no port or connection gets its number"""
+    node = written_to(trial, '2>&-')
+    far = connected(trial, node)
+    up_to_date(node)
+    equal(os.readlink('/proc/%d/fd/2' % node.child.pid), '/dev/null', 'its standard error')
+    far.stands()
+    node.stop()

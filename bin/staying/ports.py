@@ -1,0 +1,557 @@
+"""The ports of a node that stays: the one of metrics, the socket at a file, what can't be had, and what becomes of a node whose descriptors
+are at their limit, or that was suspended."""
+
+import collections
+import contextlib
+import os
+import shutil
+import signal
+import socket
+import stat
+import subprocess
+import tempfile
+import time
+
+from peering.far import REQUEST, Door, Far, Manners, connected, hello, kept_open, status_of
+from peering.node import T1, Admin, Node, address
+from peering.trial import PATIENCE, Skipped, between, check, equal, matches, require, wait
+from staying.requests import GOOD, PAGES, alone, answer_to, is_page, is_untouched, with_body
+from staying.resyncs import long_rows
+from staying.sessions import node_of_b, up_to_date
+
+
+class Folder:
+    """A folder of its own for the files of sockets, whose paths are short."""
+
+    def __init__(self, trial):
+        self.name = tempfile.mkdtemp(prefix='n', dir='/tmp')
+        trial.closes(self)
+
+    def path(self, name='s'):
+        return os.path.join(self.name, name)
+
+    def close(self):
+        shutil.rmtree(self.name, ignore_errors=True)
+
+
+class Wire(Admin):
+    """A connection to a node's socket at a file."""
+
+    def __init__(self, path):  # pylint: disable=super-init-not-called
+        self.peer = socket.socket(socket.AF_UNIX)
+        self.peer.settimeout(PATIENCE)
+        self.peer.connect(path)
+        self.whole, self.left = collections.deque(), b''
+
+
+class Metered(Node):
+    """A node with a port of metrics."""
+
+    def __init__(self, trial, more=(), **other):
+        self.metrics_port = trial.ports.next()
+        super().__init__(trial, more=(*more, 'metrics ' + address(self.metrics_port)), **other)
+
+    def visit(self):
+        """Returns a new connection to its port of metrics."""
+        return self.trial.closes(Admin(self.metrics_port, self.host))
+
+    def sees(self, *pieces):
+        """Returns all that comes from its port of metrics for some pieces of bytes."""
+        visit = self.visit()
+        for place, piece in enumerate(pieces):
+            if place:
+                time.sleep(0.1)
+            visit.send(piece)
+        came = visit.rest()
+        visit.close()
+        return came
+
+    def page(self, path, method='GET'):
+        """Returns what its port of metrics answers to a request for a page."""
+        return self.sees('%s %s HTTP/1.1\r\nHost: n\r\n\r\n' % (method, path))
+
+
+def busy(pid):
+    """Returns the processor time of a process, in seconds."""
+    with open('/proc/%d/stat' % pid) as file:
+        words = file.read().rsplit(')', 1)[1].split()
+    return (int(words[11]) + int(words[12])) / os.sysconf('SC_CLK_TCK')
+
+
+# --- The port of metrics
+
+@check
+def metrics_port(trial):
+    """the port of metrics answers the pages of HTTP as the admin port does"""
+    node = Metered(trial, peers=(), tables=(T1,)).start()
+    node.ask('track t1 7 add gpc0 1')
+    for path, page in PAGES:
+        equal(is_page(node.page(path), 200, path), page, 'the page ' + path)
+        equal(is_page(node.page(path + '?a=b'), 200, path), page, 'the page %s with a query' % path)
+        require(node.page(path, 'HEAD').endswith(b'\r\n\r\n'), 'a HEAD of', path)
+    body = is_page(node.page('/metrics'), 200, '/metrics')
+    require('\nhaproxy_sticktable_used{name="t1",type="integer"} 1\n' in body, 'the metrics:', body)
+    is_page(node.page('/nothing'), 404, 'another path')
+    is_page(node.page('/', 'POST'), 405, 'another method', 'GET, HEAD')
+    is_page(node.sees('GET / HTTP/2.0\r\n\r\n'), 505, 'another version')
+    is_page(node.sees('GET /ready HT', 'TP/1.1\r\nHo', 'st: n\r\n', '\r\n'), 200, 'a request in pieces')
+    between(0, node.stop(), 5, 'seconds until it has ended')
+
+
+@check
+def metrics_read_only(trial):
+    """nothing that comes to the port of metrics changes anything, or stops the node"""
+    node = Metered(trial, peers=(), tables=(T1,)).start()
+    for data in (GOOD, 'track t1 7 add gpc0 1\n', 'stop\n', 'stop', 'get t1 7\n', '\n' + GOOD, '\0' * 100 + '\n' + GOOD):
+        came = node.sees(data, GOOD)
+        equal(came, b'refused\n', 'the answer to %r' % data)
+    equal(node.sees('show rows\n' + GOOD), b'refused\n.\n', 'the answer to show rows')
+    for line, status, allow in (('GET /metrics HTTP/1.1', 200, None), ('GET stop HTTP/1.0', 404, None), ('POST / HTTP/1.1', 405, 'GET, HEAD'),
+                                ('track t1 HTTP/1.1', 405, 'GET, HEAD'), ('stop stop HTTP/1.1', 405, 'GET, HEAD'), ('GET / HTTP/3', 505, None)):
+        for data in with_body(line):
+            is_page(node.sees(data), status, repr(data), allow)
+    equal(node.sees('x' * 40_000 + '\n' + GOOD), b'refused\n', 'the answer to a line that is too long')
+    with contextlib.suppress(OSError):
+        node.sees((GOOD * 100_000).encode())
+    is_untouched(node, 'all of them')
+
+
+def goes_oldest(visits, count):
+    """Tests that `count` visits are over, all among the oldest: each time one of those that none of four threads looks at."""
+    over = [visit.is_over() for visit in visits]
+    require(sum(over) == sum(over[:count + 4]) == count, 'which are over, the oldest first, and not', count, 'of the oldest:', over)
+
+
+@check
+def metrics_visits(trial):
+    """of 33 connections to the port of metrics the one goes that has been idle longest of those that wait for its four threads, and
+    idle ones delay no answer"""
+    node = Metered(trial, peers=(), tables=(T1,)).start()
+    visits = []
+    for _ in range(32):
+        visits.append(node.visit())
+        time.sleep(0.05)
+    time.sleep(0.6)
+    for count in range(1, 6):
+        visits.append(node.visit())
+        time.sleep(0.1)
+        goes_oldest(visits, count)
+    begun = time.monotonic()
+    is_page(node.page('/ready'), 200, 'a request beside 32 idle connections')
+    between(0, time.monotonic() - begun, 1, 'seconds until it is answered')
+    goes_oldest(visits, 6)
+    standing = [visit for visit in visits if not visit.is_over()]
+    for visit in standing:
+        visit.send('GET /ready HTTP/1.1\r\n\r\n')
+    for visit in standing:
+        is_page(visit.rest(3), 200, 'a request of one that was idle')
+
+
+@check
+def metrics_burst(trial):
+    """of clients that come to the port of metrics at once each is answered, told 503, or closed for a later one"""
+    node = Metered(trial, peers=(), tables=(T1,)).start()
+    used = busy(node.child.pid)
+    visits = [node.visit() for _ in range(100)]
+    time.sleep(1)
+    standing = [visit for visit in visits if not visit.peer.setblocking(False) and nothing_came(visit)]
+    require(len(standing) <= 32, 'connections that stand:', len(standing))
+    for visit in visits:
+        if visit not in standing:
+            came = visit.rest()
+            require(not came or is_page(came, 503, 'one too many') == '', 'what another one gets:', came)
+    between(0, busy(node.child.pid) - used, 2, 'seconds of a processor')
+    for visit in standing:
+        visit.send('GET /ready HTTP/1.1\r\n\r\n')
+        is_page(visit.rest(3), 200, 'a request of one that stands')
+    is_page(node.page('/ready'), 200, 'a request later')
+
+
+def nothing_came(visit):
+    """Whether a connection stands, and nothing has come on it."""
+    try:
+        visit.peer.recv(1, socket.MSG_PEEK)
+    except BlockingIOError:
+        return True
+    except ConnectionError:
+        return False
+    return False
+
+
+@check
+def metrics_idle(trial):
+    """a connection to the port of metrics without a request for 60 s ends, whatever bytes come on it"""
+    node = Metered(trial, peers=(), tables=(T1,)).start()
+    silent, slow = node.visit(), node.visit()
+    begun = time.monotonic()
+    slow.send('GET /metrics HTTP/1.1\r\n')
+    while time.monotonic() < begun + 57:
+        slow.send('X: y\r\n')
+        time.sleep(1)
+    equal((silent.is_over(), slow.is_over()), (False, False), 'connections that are over after 57 s')
+    equal((silent.rest(), slow.rest()), (b'', b''), 'what idle clients get')
+    between(59.5, time.monotonic() - begun, 63, 'seconds until they are over')
+
+
+# --- The socket at a file
+
+def at_file(trial, path, admin=False, **other):
+    """Returns a node that takes requests at a file."""
+    return Node(trial, peers=(), tables=(T1,), more=('admin unix:' + path,), admin=admin, **other)
+
+
+@check
+def admin_socket(trial):
+    """a socket at a file takes requests, is its owner's alone, and is removed at the end"""
+    path = Folder(trial).path()
+    node = at_file(trial, path).start()
+    wait(lambda: os.path.exists(path), PATIENCE, 'the file is there', node.said)
+    found = os.stat(path)
+    equal((stat.S_ISSOCK(found.st_mode), stat.S_IMODE(found.st_mode), found.st_uid), (True, 0o600, os.getuid()), 'the file')
+    wire = trial.closes(Wire(path))
+    equal(wire.ask('track t1 7 add gpc0 5'), 'reply 1 - 7 5 local', 'a track')
+    equal(wire.ask('show rows'), ['row 1 - 7 5'], 'the rows')
+    other = trial.closes(Wire(path))
+    other.send('GET /ready HTTP/1.1\r\n\r\n')
+    is_page(other.rest(), 200, 'a client of HTTP')
+    wire.send('nonsense\n')
+    equal(wire.rest(), b'refused\n', 'the answer to a line that cannot be read')
+    last = trial.closes(Wire(path))
+    equal(last.ask('stop'), 'ok', 'the answer to stop')
+    equal(node.child.wait(5), 0, 'the status')
+    require(not os.path.exists(path), 'the file is there after the end')
+
+
+@check
+def admin_ports(trial):
+    """both the port and the socket take requests, over 32 connections in all"""
+    path = Folder(trial).path()
+    node = at_file(trial, path, admin=True).start()
+    wires = [trial.closes(Wire(path)) for _ in range(31)]
+    for wire in wires:
+        equal(wire.ask('get t1 7'), 'none', 'an answer')
+        time.sleep(0.01)
+    time.sleep(0.2)
+    equal(node.ask('track t1 7 add gpc0 1'), 'reply 1 - 7 1 local', 'a track at the port')
+    equal(node.admin().ask('get t1 7'), 'row 1 - 7 1', 'an answer to one more')
+    equal([wire.is_over() for wire in wires[:2]], [True, False], 'which of the oldest are over')
+    between(0, node.stop(), 5, 'seconds until it has ended')
+    require(not os.path.exists(path), 'the file is there after the end')
+
+
+@check
+def wide_umask(trial):
+    """nobody else can open the file of a socket, whatever the umask says"""
+    path = Folder(trial).path()
+    node = at_file(trial, path)
+    node.within = ('sh', '-c', 'umask 0; exec "$@"', 'sh')
+    node.start()
+    wait(lambda: os.path.exists(path), PATIENCE, 'the file is there', node.said)
+    equal(stat.S_IMODE(os.stat(path).st_mode), 0o600, 'the mode of the file')
+
+
+@check
+def stale_socket(trial):
+    """the file of a socket that nobody listens on is replaced"""
+    path = Folder(trial).path()
+    node = at_file(trial, path).start()
+    wait(lambda: os.path.exists(path), PATIENCE, 'the file is there', node.said)
+    node.kill()
+    require(os.path.exists(path), 'the file is there after a kill')
+    before = os.stat(path).st_mtime_ns
+    node.again()
+    wait(lambda: os.stat(path).st_mtime_ns != before, PATIENCE, 'the file is another one', node.said)
+    equal(trial.closes(Wire(path)).ask('stop'), 'ok', 'the answer to stop')
+    equal((node.child.wait(5), os.path.exists(path)), (0, False), 'the status, and whether the file is there')
+
+
+@check
+def replaced_socket(trial):
+    """the file of another socket that has taken the place of the node's isn't removed at the end"""
+    folder = Folder(trial)
+    path, other = folder.path(), folder.path('other')
+    node = at_file(trial, path, admin=True).start()
+    wait(lambda: os.path.exists(path), PATIENCE, 'the file is there', node.said)
+    with socket.socket(socket.AF_UNIX) as made:
+        made.bind(other)
+        os.rename(other, path)
+        before = os.stat(path).st_ino
+        node.stop()
+        equal(os.stat(path).st_ino, before, 'the file')
+
+
+def fails(trial, text, line, status=4):
+    """Checks that a node with this configuration ends so, and says why in this line."""
+    run = subprocess.run([trial.program, 'run'], input=text.encode(), capture_output=True, timeout=PATIENCE, check=False)
+    equal((run.returncode, run.stdout), (status, b''), 'the end with %r' % text)
+    matches(line, run.stderr.decode(), 'standard error with %r' % text)
+
+
+def with_lines(trial, *lines, listen=None):
+    """Returns a configuration with these lines."""
+    return '\n'.join(('node n', 'listen ' + (listen or address(trial.ports.next())), T1, *lines)) + '\n'
+
+
+@check
+def foreign_files(trial):
+    """a file that isn't the node's stays as it is, and the node says that it can't have the socket"""
+    folder = Folder(trial)
+    path = folder.path()
+    with open(path, 'w') as file:
+        file.write('mine')
+    fails(trial, with_lines(trial, 'admin unix:' + path), r'admin unix:%s: .*isn.t a socket\n' % path)
+    with open(path) as file:
+        equal(file.read(), 'mine', 'the file')
+    os.mkdir(folder.path('d'))
+    fails(trial, with_lines(trial, 'admin unix:' + folder.path('d')), r'admin unix:%s: .*isn.t a socket\n' % folder.path('d'))
+    os.symlink(path, folder.path('l'))
+    fails(trial, with_lines(trial, 'admin unix:' + folder.path('l')), r'admin unix:%s: .*isn.t a socket\n' % folder.path('l'))
+    require(os.path.islink(folder.path('l')) and os.path.isdir(folder.path('d')), 'the link and the folder are there')
+    fails(trial, with_lines(trial, 'admin unix:' + folder.path('no/s')), r'admin unix:%s: No such file or directory\n' % folder.path('no/s'))
+
+
+@check
+def socket_in_use(trial):
+    """a socket that somebody listens on stays as it is"""
+    path = Folder(trial).path()
+    node = at_file(trial, path).start()
+    wait(lambda: os.path.exists(path), PATIENCE, 'the file is there', node.said)
+    before = os.stat(path).st_ino
+    fails(trial, with_lines(trial, 'admin unix:' + path), 'admin unix:%s: Address already in use\n' % path)
+    equal(os.stat(path).st_ino, before, 'the file')
+    wire = trial.closes(Wire(path))
+    equal(wire.ask('get t1 7'), 'none', 'the answer of the node that has it')
+    with socket.socket() as taken:
+        taken.bind(('127.0.0.1', trial.ports.next()))
+        taken.listen()
+        port = taken.getsockname()[1]
+        free = path + '2'
+        fails(trial, with_lines(trial, 'admin unix:' + free, 'metrics ' + address(port)), 'metrics %s: Address already in use\n' % address(port))
+        require(not os.path.exists(free), 'a file of a node that did not start')
+
+
+# --- What can't be had
+
+@check
+def devices(trial):
+    """a port that can't be had is named, with the system's reason"""
+    with socket.socket() as taken, socket.socket(socket.AF_INET6) as taken6:
+        taken.bind(('127.0.0.1', trial.ports.next()))
+        taken.listen()
+        port = taken.getsockname()[1]
+        in_use = 'Address already in use\n'
+        fails(trial, with_lines(trial, listen=address(port)), 'listen %s: %s' % (address(port), in_use))
+        fails(trial, with_lines(trial, 'admin ' + address(port)), 'admin %s: %s' % (address(port), in_use))
+        fails(trial, with_lines(trial, 'metrics ' + address(port)), 'metrics %s: %s' % (address(port), in_use))
+        with contextlib.suppress(OSError):
+            taken6.bind(('::1', trial.ports.next()))
+            taken6.listen()
+            place = '[::1]:%d' % taken6.getsockname()[1]
+            fails(trial, with_lines(trial, listen=place), r'listen \[::1\]:%d: %s' % (taken6.getsockname()[1], in_use))
+            fails(trial, with_lines(trial, 'metrics ' + place), r'metrics \[::1\]:%d: %s' % (taken6.getsockname()[1], in_use))
+    for line in ('listen', 'metrics'):
+        text = with_lines(trial, 'metrics 203.0.113.1:9101') if line == 'metrics' else with_lines(trial, listen='203.0.113.1:9101')
+        fails(trial, text, '%s 203.0.113.1:9101: Cannot assign requested address\n' % line)
+
+
+@check
+def privileged_port(trial):
+    """a port below 1024 is refused to a user who may not have it"""
+    if os.getuid() != 0:
+        raise Skipped('not root')
+    text = with_lines(trial, listen='127.0.0.1:81')
+    command = ['setpriv', '--reuid=60001', '--regid=60001', '--clear-groups', '--bounding-set=-all', '--inh-caps=-all', trial.program, 'run']
+    run = subprocess.run(command, input=text.encode(), capture_output=True, timeout=PATIENCE, check=False)
+    with open('/proc/sys/net/ipv4/ip_unprivileged_port_start') as file:
+        if int(file.read()) <= 81 or run.returncode in (126, 127):
+            raise Skipped('another user may have it, or cannot run the program')
+    equal((run.returncode, run.stderr), (4, b'listen 127.0.0.1:81: Permission denied\n'), 'the end')
+
+
+# --- Descriptors at their limit
+
+@check
+def few_descriptors(trial):
+    """a node whose descriptors are at their limit keeps its sessions and its clients, is idle, and takes others once there is room"""
+    node = Metered(trial, peers=('b', 'c'), tables=(T1,))
+    node.within = ('prlimit', '--nofile=16')
+    node.start()
+    b = connected(trial, node)
+    up_to_date(node)
+    crowd = [node.admin() for _ in range(20)] + [kept_open((node.host, node.port)) for _ in range(20)] + [node.visit() for _ in range(20)]
+    time.sleep(1)
+    used = busy(node.child.pid)
+    for key in range(20):
+        equal(node.admins.ask('track t1 %d add gpc0 1' % key), 'reply %d - %d 1 local' % (key + 1, key), 'a track')
+        b.gets_row('t1', key, (1,), 3)
+        time.sleep(0.1)
+    b.stands()
+    between(0, busy(node.child.pid) - used, 1, 'seconds of a processor in two seconds')
+    for one in crowd:
+        one.close()
+    c = wait(lambda: comes(trial, node), 15, 'a peer comes once there is room', node.said, pause=0.5)
+    c.gets_row('t1', 7, (1,), 15)
+    is_page(node.page('/ready'), 200, 'a request later')
+    between(0, node.stop(), 5, 'seconds until it has ended')
+
+
+def comes(trial, node):
+    """Returns a far side named c, if the node takes it."""
+    peer = kept_open((node.host, node.port))
+    with contextlib.suppress(OSError):
+        peer.sendall(hello('n', 'c') + REQUEST)
+        peer.settimeout(3)
+        if status_of(peer, 3) == b'200\n':
+            return trial.closes(Far(peer))
+    peer.close()
+    return None
+
+
+@check
+def stop_without_descriptors(trial):
+    """stop ends a node within 5 s while no descriptor is left"""
+    node = Metered(trial, peers=('b', 'c 127.0.0.1:9'), tables=(T1,))
+    node.within = ('prlimit', '--nofile=14')
+    node.start()
+    b = connected(trial, node)
+    up_to_date(node)
+    for _ in range(10):
+        trial.closes(kept_open((node.host, node.port)))
+        trial.closes(node.admin())
+    time.sleep(0.5)
+    node.admins.send('stop\n')
+    begun = time.monotonic()
+    equal(node.admins.line(), 'ok', 'the answer to stop')
+    equal(node.child.wait(6), 0, 'the status')
+    between(0, time.monotonic() - begun, 5, 'seconds until it has ended')
+    b.ends(1)
+
+
+# --- No memory left
+
+@check
+def without_memory(trial):
+    """a node that has no memory left for a request still obeys stop"""
+    node = Node(trial, peers=(), tables=('table 1 long string 8192 0 gpc0',))
+    node.within = ('prlimit', '--as=%d' % (512 << 20))
+    node.launch()
+    with contextlib.suppress(subprocess.TimeoutExpired):
+        raise Skipped('the program does not start in 512 MB: status %s' % node.child.wait(1))
+    client = wait(node.opened, PATIENCE, 'the admin port is open', node.said)
+    filled(node, client)
+    for _ in range(40):  # Whoever comes now is served as far as memory goes.
+        client = node.admin()
+        with contextlib.suppress(OSError):
+            client.send('track long =%s add gpc0 1\n' % ('y' * 8000))
+            client.peer.recv(100)
+        client.close()
+    last = node.admin()
+    begun = time.monotonic()
+    last.send('stop\n')
+    equal((last.line(), node.child.wait(6)), ('ok', 0), 'the answer to stop, and the status')
+    between(0, time.monotonic() - begun, 5, 'seconds until it has ended')
+
+
+def filled(node, client):
+    """Tracks long keys until a request isn't answered any more."""
+    for place in range(1_000):
+        with contextlib.suppress(OSError):
+            client.send(''.join('track long =%s%d add gpc0 1\n' % ('x' * 8000, 100 * place + key) for key in range(100)))
+        for _ in range(100):
+            line = client.line(20)
+            if line is None:
+                return
+            require(line.startswith('reply '), 'a track:', line)
+    require(False, 'the node takes 100,000 keys of 8 kB:', '%d MiB' % node.memory())
+
+
+# --- A host that is suspended
+
+@check
+def suspended(trial):
+    """a node that was suspended for 30 s finds its sessions dead, ends them, and has others"""
+    door = Door(trial)
+    node = Metered(trial, peers=('b', 'c ' + address(door.port)), tables=('table 1 t1 integer 4 0 gpc0',)).start()
+    b = connected(trial, node)
+    c = wait(lambda: door.fars and door.fars[0], PATIENCE, 'the node connects', node.said)
+    up_to_date(node)
+    node.ask('track t1 7 add gpc0 1')
+    b.gets_row('t1', 7, (1,), 3)
+    c.gets_row('t1', 7, (1,), 3)
+    node.child.send_signal(signal.SIGSTOP)
+    time.sleep(1)
+    b.reset()
+    waiting = node.admin()
+    waiting.send('track t1 8 add gpc0 1\n')
+    time.sleep(29)
+    used = busy(node.child.pid)
+    node.child.send_signal(signal.SIGCONT)
+    equal(waiting.line(5), 'reply 2 - 8 1 local', 'the answer to a track that came meanwhile')
+    wait(lambda: node.peer('b')['state'] == 'down', 5, 'the dead session is over', lambda: node.ask('show peers'))
+    again = connected(trial, node)
+    again.gets_row('t1', 8, (1,), 5)
+    wait(lambda: door.fars and door.fars[-1].over is None and door.fars[-1].rows('t1').get((8).to_bytes(4, 'big')), 15,
+         'the other peer has the row', node.said)
+    equal(node.ask('get t1 7'), 'row 1 - 7 1', 'a row from before')
+    time.sleep(1)
+    between(0, busy(node.child.pid) - used, 3, 'seconds of a processor since')
+    between(0, node.stop(), 5, 'seconds until it has ended')
+
+
+# --- Stops
+
+@check
+def stops_beside_deaf_clients(trial):
+    """stop ends a node within 5 s while 31 clients don't read their answers"""
+    node = alone(trial, tables=('table 1 long string 8192 0 gpc0',))
+    long_rows(node, 512)
+    deaf = []
+    for _ in range(31):
+        deaf.append(trial.closes(kept_open((node.host, node.admin_port), buffer=2048)))
+        deaf[-1].sendall(b'show rows\n' * 20)
+    time.sleep(1)
+    between(0, node.stop(), 5, 'seconds until it has ended')
+
+
+@check
+def stops_beside_the_mute(trial):
+    """stop ends a node within 5 s beside a peer that says nothing, hellos that don't end, and one that can't be reached"""
+    node = Metered(trial, peers=('b', 'c 203.0.113.1:9', 'd'), tables=(T1,)).start()
+    mute = connected(trial, node, manners=Manners(beats=False, acks='none', answer=b''))
+    node.admins.send('track t1 7 add gpc0 1\n')
+    for _ in range(6):
+        trial.closes(kept_open((node.host, node.port))).sendall(hello('n', 'd')[:9])
+    visits = [node.visit() for _ in range(8)]
+    visits[0].send('GET /metrics HTTP/1.1\r\n')
+    time.sleep(0.5)
+    admin = node.admin()
+    begun = time.monotonic()
+    equal(admin.ask('stop'), 'ok', 'the answer to stop')
+    equal(node.child.wait(6), 0, 'the status')
+    between(0, time.monotonic() - begun, 5, 'seconds until it has ended')
+    mute.ends(1)
+    for visit in visits:
+        equal(visit.rest(), b'', 'what a client of the port of metrics gets')
+
+
+@check
+def bursts(trial):
+    """clients that come to the admin port at once, each with a request, are answered, though more than 32 stay"""
+    node = alone(trial, tables=(T1,))
+    for key in range(4):
+        clients = []
+        for _ in range(60):
+            clients.append(kept_open((node.host, node.admin_port)))
+            clients[-1].sendall(b'get t1 %d\n' % key)
+        for client in clients:
+            equal(answer_of(client), b'none\n', 'the answer to one of 60 clients')
+        for client in clients:
+            client.close()
+
+
+def answer_of(client):
+    """Returns the first bytes that come on a connection, up to 100."""
+    client.settimeout(5)
+    with contextlib.suppress(OSError):
+        return client.recv(100)
+    return None

@@ -1,0 +1,75 @@
+-- The addresses and the warnings of more and more lines.
+use Rattle.std.proofs.Common.{◌≡◌, ◌∙◌, ◌+◌, ◌<◌, ◌++◌, ℕ, List, [], ◌∷◌, add-one, ap, append_assoc, get_or, length, map, refl, subst, sym, take}
+use Rattle.std.specs.Prelude.{Err, Ok, OnOk, Option, Result, option_to_list}
+use Rattle.std.proofs.Math.Seq.{take-suc}
+use Rattle.std.proofs.lemmas.List.{append-nil, map-append}
+use Rattle.admin_text.specs.Places.{ArePlaces, IsPlaceOf}
+use Rattle.admin_text.specs.Refusals.{Adds, AreLines}
+use Rattle.admin_text.specs.Statements.{Said, said_by}
+use Rattle.admin_text.specs.Warnings.{AreWarnings, line_warnings, warned, warned_head}
+use Rattle.admin_text.specs.declared.places.Place.{Place}
+use Rattle.admin_text.specs.declared.statements.Statement.{Statement}
+use Rattle.admin_text.specs.declared.warnings.WarnedLine.{WarnedLine}
+use Rattle.admin_text.proofs.RefusalLaws.{next_lines}
+
+-- ---- one more line
+
+places_on : (lines : List Said) (line : Said) (place : Option Place) (found : List Place) → ArePlaces lines found → IsPlaceOf line place
+    → ArePlaces (lines ++ line ∷ []) (found ++ option_to_list place)
+places_on [] line place found none is =
+    (place, [], is, ap (λ some. some ++ option_to_list place) none ∙ sym (append-nil (option_to_list place)), refl)
+places_on (first ∷ lines) line place found (one, more, has, split, rest) is = (
+  one,
+  more ++ option_to_list place,
+  has,
+  ap (λ all. all ++ option_to_list place) split ∙ append_assoc (option_to_list one) more (option_to_list place),
+  places_on lines line place more rest is,
+)
+
+warnings_on : (all : List Place) (lines : List Said) (line : Said) (place : Option Place) (found : List WarnedLine) → AreWarnings all lines found
+    → IsPlaceOf line place → AreWarnings all (lines ++ line ∷ []) (found ++ warned line.0 (line_warnings all place line.1))
+warnings_on all [] line place found none is =
+    let last = warned line.0 (line_warnings all place line.1) in
+    (place, [], is, ap (λ some. some ++ last) none ∙ sym (append-nil last), refl)
+warnings_on all (first ∷ lines) line place found (one, more, has, split, rest) is =
+    let last = warned line.0 (line_warnings all place line.1) in (
+      one,
+      more ++ last,
+      has,
+      ap (λ some. some ++ last) split ∙ append_assoc (warned first.0 (line_warnings all one first.1)) more last,
+      warnings_on all lines line place more rest is,
+    )
+
+-- ---- as the code has the lines
+
+pub taken_more : (lines : List Statement) (i : ℕ) (s : Statement) → i < length lines → s ≡ get_or lines i s
+    → map said_by (take (i + 1) lines) ≡ map said_by (take i lines) ++ said_by s ∷ []
+taken_more lines i s less is =
+    ap (λ n. map said_by (take n lines)) (add-one i) ∙ ap (map said_by) (take-suc lines i s less) ∙ map-append said_by (take i lines) (get_or lines i s ∷ [])
+    ∙ ap (λ last. map said_by (take i lines) ++ said_by last ∷ []) (sym is)
+
+pub next_places : (lines : List Statement) (i : ℕ) (s : Statement) (place : Option Place) (found all : List Place) → i < length lines
+    → s ≡ get_or lines i s → ArePlaces (map said_by (take i lines)) found → IsPlaceOf (said_by s) place → all ≡ found ++ option_to_list place
+    → ArePlaces (map said_by (take (i + 1) lines)) all
+next_places lines i s place found all less is so_far has pushed =
+    subst (λ some. ArePlaces some all) (sym (taken_more lines i s less is))
+    (subst (ArePlaces (map said_by (take i lines) ++ said_by s ∷ [])) (sym pushed) (places_on (map said_by (take i lines)) (said_by s) place found so_far has))
+
+pub next_warnings : (places : List Place) (lines : List Statement) (i : ℕ) (s : Statement) (place : Option Place) (found all : List WarnedLine)
+    → i < length lines → s ≡ get_or lines i s → AreWarnings places (map said_by (take i lines)) found → IsPlaceOf (said_by s) place
+    → all ≡ found ++ warned s.number (line_warnings places place (map (λ word. word.now) s.words.items))
+    → AreWarnings places (map said_by (take (i + 1) lines)) all
+next_warnings places lines i s place found all less is so_far has pushed =
+    subst (λ some. AreWarnings places some all) (sym (taken_more lines i s less is))
+    (subst (AreWarnings places (map said_by (take i lines) ++ said_by s ∷ [])) (sym pushed)
+    (warnings_on places (map said_by (take i lines)) (said_by s) place found so_far has))
+
+-- ---- the lines that say them
+
+pub warning_said : {E : Type 0} (r : Result (Unit {0}) E) (found all : List WarnedLine) (line : WarnedLine) (before after : List ℕ)
+    → all ≡ found ++ line ∷ [] → AreLines (map warned_head found) before → OnOk r (Adds (warned_head line) before after)
+    → OnOk r (AreLines (map warned_head all) after)
+warning_said (Ok done) found all line before after pushed so_far adds =
+    subst (λ heads. AreLines heads after) (sym (ap (map warned_head) pushed ∙ map-append warned_head found (line ∷ [])))
+    (next_lines (map warned_head found) (warned_head line) before after adds so_far)
+warning_said (Err error) found all line before after pushed so_far adds = tt

@@ -1,5 +1,0 @@
-use Rattle.admin_text.specs.Refusals.{AddsPrintable}
-use Rattle.admin_text.proofs.refusals.push_printable.Given as goal
-
-abbrev pub invariant-loop-byte : goal.invariant-loop-byte
-invariant-loop-byte l = AddsPrintable l.fn.text.items l.text.items

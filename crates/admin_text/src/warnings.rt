@@ -1,0 +1,136 @@
+//! What is legal in a configuration, and surely meant otherwise.
+ghost use Rattle.std.specs.Prelude.{◌≡◌, ◌++◌, Option, IfOk, OnOk, is_none, map, option_to_list};
+ghost use Rattle.admin_text.specs.Before.{line_of};
+ghost use Rattle.admin_text.specs.Places.{IsPlaceOf};
+ghost use Rattle.admin_text.specs.Refusals.{AreLines};
+ghost use Rattle.admin_text.specs.Statements.{said_by};
+ghost use Rattle.admin_text.specs.Warnings.{AreWarningsOf, line_warnings, peers_heads, warned, warned_head};
+ghost use Rattle.admin_text.specs.declared.line_kinds.LineKind.TheVariants as kinds;
+ghost use Rattle.admin_text.specs.declared.places.Place.{Place};
+
+use crate::address_warnings::place_warning;
+use crate::before::line_of;
+use crate::line_kinds::LineKind;
+use crate::places::{Place, place_of, places_of};
+use crate::said_lines::{push_line, push_numbered};
+use crate::sentences::warning_sentence;
+use crate::statements::Statement;
+use crate::table_warnings::{expire_warning, length_warning, name_warning, period_warning};
+use std::alloc::Global;
+use table_types::Memory;
+
+/// What is legal in a line, and surely meant otherwise. Other lines are given by their numbers.
+#[derive(Clone, Copy, Debug, PartialEq, Eq)]
+pub enum Warning {
+    /// Requests come to the port at which the node listens, which this line says.
+    Port(usize),
+    /// HTTP comes to an address that this line gives the node already.
+    Overlap(usize),
+    /// The peer is at the address at which the node listens, which this line says.
+    Own(usize),
+    /// This line has a peer at the address.
+    Shared(usize),
+    /// The length of strings is HAProxy's `len`, it seems.
+    Length,
+    /// The name has a section in front, which doesn't go over the wire.
+    Section,
+    /// Rows live longer than HAProxy's may.
+    Expire,
+    /// The data type at this place has a longer period than HAProxy's may have.
+    Period(usize),
+}
+
+/// A warning of a line.
+#[derive(Clone, Copy, Debug, PartialEq, Eq)]
+pub struct WarnedLine {
+    /// The number of the line, from 1.
+    pub number: usize,
+    /// What is surely meant otherwise.
+    pub warning: Warning,
+}
+
+/// What is legal in a configuration, and surely meant otherwise.
+#[derive(Debug, Drop)]
+pub struct Warnings {
+    /// The lines, in order. One may stand here several times.
+    pub lines: Vec<WarnedLine>,
+    /// Whether there are no peers.
+    pub no_peers: bool,
+    /// A line for each warning that says what is meant, in bytes 32 to 126.
+    pub said: Vec<u8>,
+}
+
+impl Warnings {
+    /// Notes the warnings of a line, if all addresses are these.
+    fn note_line(
+        &mut self,
+        alloc: Global,
+        all: &[Place],
+        line: &Statement<'_>,
+    ) -> Result<(), Memory>
+        ensures listed { OnOk result ((place : Option Place) × IsPlaceOf (said_by line.now) place × (self.new.lines.items ≡ self.old.lines.items ++ warned line.now.number (line_warnings all.now place (map (λ word. word.now) line.now.words.items)))) }
+        ensures said { AreLines (map warned_head self.old.lines.items) self.old.said.items → OnOk result (AreLines (map warned_head self.new.lines.items) self.new.said.items) }
+        ensures no_peers { self.new.no_peers ≡ self.old.no_peers }
+    {
+        let words = line.words.as_slice();
+        self.note(alloc, line, place_warning(all, place_of(line)))?;
+        self.note(alloc, line, name_warning(words))?;
+        self.note(alloc, line, length_warning(words))?;
+        self.note(alloc, line, expire_warning(words))?;
+        self.note(alloc, line, period_warning(words))
+    }
+
+    /// Notes a warning of a line, if there is one.
+    fn note(
+        &mut self,
+        alloc: Global,
+        line: &Statement<'_>,
+        warning: Option<Warning>,
+    ) -> Result<(), Memory>
+        ensures listed { OnOk result (self.new.lines.items ≡ self.old.lines.items ++ warned line.now.number (option_to_list warning)) }
+        ensures said { AreLines (map warned_head self.old.lines.items) self.old.said.items → OnOk result (AreLines (map warned_head self.new.lines.items) self.new.said.items) }
+        ensures no_peers { self.new.no_peers ≡ self.old.no_peers }
+    {
+        let Some(warning) = warning else {
+            return Ok(());
+        };
+        let number = line.number;
+        let sentence = warning_sentence(alloc, line.words.as_slice(), warning)?;
+        self.lines.push(WarnedLine { number, warning })?;
+        push_numbered(&mut self.said, number, ": warning: ", sentence.as_str())
+    }
+
+    /// Notes that there are no peers, if there are none. This is the last one.
+    fn note_peers(&mut self, lines: &[Statement<'_>]) -> Result<(), Memory>
+        ensures no_peers { self.new.no_peers ≡ is_none (line_of kinds.Peer (map said_by lines.now)) }
+        ensures listed { self.new.lines.items ≡ self.old.lines.items }
+        ensures said { AreLines (map warned_head self.old.lines.items) self.old.said.items → OnOk result (AreLines (map warned_head self.new.lines.items ++ peers_heads self.new.no_peers) self.new.said.items) }
+    {
+        self.no_peers = line_of(lines, LineKind::Peer).is_none();
+        if self.no_peers {
+            push_line(&mut self.said, "configuration: warning: ", NO_PEERS)?;
+        }
+        Ok(())
+    }
+}
+
+/// What is said if there are no peers.
+const NO_PEERS: &str =
+    "no line \"peer NAME ..\" names a peer, so the tables are shared with nobody";
+
+/// Returns what is legal in these lines, and surely meant otherwise.
+pub(crate) fn warnings_of(alloc: Global, lines: &[Statement<'_>]) -> Result<Warnings, Memory>
+    ensures { IfOk result (AreWarningsOf (map said_by lines.now)) }
+{
+    let all = places_of(alloc, lines)?;
+    let mut warnings = Warnings {
+        lines: Vec::new(alloc),
+        no_peers: false,
+        said: Vec::new(alloc),
+    };
+    for line in lines {
+        warnings.note_line(alloc, all.as_slice(), line)?;
+    }
+    warnings.note_peers(lines)?;
+    Ok(warnings)
+}

@@ -1,0 +1,8 @@
+use Rattle.std.proofs.Common.{arith}
+use Rattle.table_types.specs.Shapes.{is_same_period}
+use Rattle.node_core.proofs.SameShapes.{none_left}
+use Rattle.node_core.proofs.differences.have_same_periods.Goals as goal
+
+pub returns-in_default : goal.returns-in_default
+returns-in_default c =
+    none_left (λ t h. is_same_period t.1 h.1) c.args.own.now c.loop-entry.rest.now c.loop-entry.entry-index _ (omega arith) (omega (arith, c.in_default.ensures.cases)) c.loop-entry.invariant

@@ -1,0 +1,198 @@
+//! What happens to a node, as its log says it.
+
+use crate::differences::Difference;
+use crate::session_ends::SessionEnd;
+use table_types::Version;
+
+/// What happens to a node. Names, addresses and reasons are bytes, of which no line of the log gets any that ends it.
+#[derive(Clone, Copy, Debug)]
+pub enum Event<'a> {
+    /// The node starts.
+    Start {
+        /// The program's version.
+        version: &'a [u8],
+        /// The configuration's checksum.
+        configuration: &'a [u8],
+        /// The name by which the node calls itself.
+        node: &'a [u8],
+    },
+    /// A port is open.
+    Listening {
+        /// What it is for.
+        port: Port,
+        /// Its address.
+        address: &'a [u8],
+    },
+    /// The node refuses a hello.
+    HelloRefused {
+        /// Whose hello it is, if it says so.
+        sender: Option<Sender<'a>>,
+        /// The far side's address.
+        address: &'a [u8],
+        /// Why.
+        refusal: HelloRefusal,
+        /// The name by which the node calls itself.
+        node: &'a [u8],
+    },
+    /// Something happens with a peer.
+    OfPeer {
+        /// The peer's name.
+        name: &'a [u8],
+        /// The far side's address, or the one that the configuration gives it.
+        address: &'a [u8],
+        /// What it is.
+        event: PeerEvent<'a>,
+    },
+    /// A table gets new numbers, for which all sessions end.
+    Renewed {
+        /// The table's name.
+        table: &'a [u8],
+    },
+    /// Lines of the log were left out.
+    Omitted {
+        /// The name of the peer that they were about, if they were about one.
+        peer: Option<&'a [u8]>,
+        /// Why.
+        cause: Omission,
+        /// How many they were.
+        count: u64,
+    },
+    /// The node stops.
+    Stop,
+}
+
+/// Why lines of the log were left out.
+#[derive(Clone, Copy, Debug, PartialEq, Eq)]
+pub enum Omission {
+    /// Too many came in a second that said the event with this name.
+    Repeated(&'static str),
+    /// The log couldn't be written in time.
+    Unwritten,
+}
+
+/// What a port is for.
+#[derive(Clone, Copy, Debug, PartialEq, Eq)]
+pub enum Port {
+    /// Peers connect to it.
+    Peers,
+    /// Requests come to it.
+    Admin,
+    /// Metrics are read at it.
+    Metrics,
+}
+
+/// Who sent a hello.
+#[derive(Clone, Copy, Debug)]
+pub enum Sender<'a> {
+    /// A peer of the configuration, by its name.
+    Peer(&'a [u8]),
+    /// One that calls itself by this name, which no peer of the configuration has.
+    Stranger(&'a [u8]),
+}
+
+/// Why the node refuses a hello.
+#[derive(Clone, Copy, Debug, PartialEq, Eq)]
+pub enum HelloRefusal {
+    /// It isn't a hello of the protocol.
+    Garbled,
+    /// It says a version of the protocol that the node doesn't speak.
+    Version,
+    /// It calls this node by another name.
+    OtherNode,
+    /// No peer of the configuration has the sender's name.
+    Stranger,
+    /// The peer may not come from the address from which it came.
+    Elsewhere,
+}
+
+/// What happens with a peer.
+#[derive(Clone, Copy, Debug)]
+pub enum PeerEvent<'a> {
+    /// The node begins to try to connect to it.
+    Connecting,
+    /// It can't be connected to.
+    Unreachable {
+        /// Why, in the system's words.
+        reason: &'a [u8],
+    },
+    /// It refuses the node's hello.
+    Refused {
+        /// The status that it answers.
+        status: u16,
+        /// The name by which the node calls itself.
+        node: &'a [u8],
+    },
+    /// A session with it begins.
+    Connected {
+        /// Whether the peer made the connection.
+        accepted: bool,
+        /// The version that the session speaks.
+        version: Version,
+    },
+    /// The node asks it for all rows.
+    Asked,
+    /// It was asked, and isn't waited for any longer.
+    Unanswered,
+    /// A resync is over.
+    ResyncEnded {
+        /// Whether the node was the teacher.
+        taught: bool,
+        /// How it ended.
+        end: ResyncEnd,
+        /// The rows that were taught in it.
+        rows: u64,
+        /// How long it took, in milliseconds.
+        milliseconds: u64,
+    },
+    /// It has a table otherwise than this node.
+    Mismatch {
+        /// The table's name.
+        table: &'a [u8],
+        /// What differs.
+        difference: Difference,
+        /// How the peer has it, in words.
+        theirs: &'a [u8],
+        /// How this node has it, in words.
+        ours: &'a [u8],
+    },
+    /// It has a table that this node lacks.
+    Unshared {
+        /// The table's name, which the peer chose.
+        table: &'a [u8],
+    },
+    /// It never defined a table of this node.
+    Undefined {
+        /// The table's name.
+        table: &'a [u8],
+    },
+    /// It doesn't acknowledge rows of a table, which is left for as long as the session stands.
+    Left {
+        /// The table's name.
+        table: &'a [u8],
+    },
+    /// It has sent something of a table that the node passes over.
+    PassedOver,
+    /// It has broken the protocol.
+    Fault {
+        /// The fault's name.
+        fault: &'a [u8],
+    },
+    /// The connection with it is over.
+    Ended {
+        /// Whether a session had begun on it.
+        begun: bool,
+        /// Why.
+        end: SessionEnd,
+    },
+}
+
+/// How a resync ended.
+#[derive(Clone, Copy, Debug, PartialEq, Eq)]
+pub enum ResyncEnd {
+    /// All rows were taught.
+    Finished,
+    /// Not all rows were taught.
+    Partial,
+    /// The session ended first.
+    Broken,
+}

@@ -1,0 +1,12 @@
+//! Why the node has no session with a peer.
+
+/// Why the node has no session with a peer, as its last attempt showed.
+#[derive(Clone, Copy, Debug, PartialEq, Eq)]
+pub enum LastError {
+    /// The peer's address couldn't be connected to.
+    Unreachable,
+    /// The peer refused the node's hello with this status.
+    Refused(u16),
+    /// The node refused the peer's hello with this status.
+    HelloRefused(u16),
+}

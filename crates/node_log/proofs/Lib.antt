@@ -1,0 +1,8 @@
+pub mod Crosses
+mod Counting
+mod EventLeads
+mod Leads
+mod LineLaws
+mod SenderLaws
+mod Spacing
+mod ValueLaws

@@ -1,0 +1,10 @@
+pub mod Events
+pub mod Keys
+pub mod Limits
+pub mod Lines
+pub mod Ranges
+pub mod Senders
+pub mod Times
+pub mod Told
+pub mod Values
+pub mod Waiting

@@ -1,0 +1,99 @@
+//! The names of events, and how much each matters.
+ghost use Rattle.std.specs.Prelude.{◌≡◌};
+ghost use Rattle.node_log.specs.Events.{end_level, event_name, level_of, peer_event_level, peer_event_name, resync_level};
+
+use node_core::{Event, Level, PeerEvent, ResyncEnd, SessionEnd};
+
+/// Returns the name of an event.
+pub fn event_name(event: &Event<'_>) -> &'static str
+    ensures { result.now ≡ event_name event.now }
+{
+    match event {
+        Event::Start { .. } => "start",
+        Event::Listening { .. } => "listening",
+        Event::HelloRefused { .. } => "hello-refused",
+        Event::OfPeer { event, .. } => peer_event_name(event),
+        Event::Renewed { .. } => "renewed",
+        Event::Omitted { .. } => "omitted",
+        Event::Stop => "stop",
+    }
+}
+
+/// Returns the name of an event of a peer.
+pub fn peer_event_name(event: &PeerEvent<'_>) -> &'static str
+    ensures { result.now ≡ peer_event_name event.now }
+{
+    match event {
+        PeerEvent::Connecting => "connecting",
+        PeerEvent::Unreachable { .. } => "unreachable",
+        PeerEvent::Refused { .. } => "refused",
+        PeerEvent::Connected { .. } => "connected",
+        PeerEvent::Asked => "asked",
+        PeerEvent::Unanswered => "unanswered",
+        PeerEvent::ResyncEnded { .. } => "resync-ended",
+        PeerEvent::Mismatch { .. } => "mismatch",
+        PeerEvent::Unshared { .. } => "unshared",
+        PeerEvent::Undefined { .. } => "undefined",
+        PeerEvent::Left { .. } => "left",
+        PeerEvent::PassedOver => "passed-over",
+        PeerEvent::Fault { .. } => "fault",
+        PeerEvent::Ended { .. } => "ended",
+    }
+}
+
+/// Returns how much an event matters.
+pub fn level_of(event: &Event<'_>) -> Level
+    ensures { result ≡ level_of event.now }
+{
+    match event {
+        Event::HelloRefused { .. } | Event::Omitted { .. } => Level::Warn,
+        Event::OfPeer { event, .. } => peer_event_level(event),
+        Event::Start { .. } | Event::Listening { .. } | Event::Renewed { .. } | Event::Stop => {
+            Level::Info
+        }
+    }
+}
+
+/// Returns how much an event of a peer matters.
+fn peer_event_level(event: &PeerEvent<'_>) -> Level
+    ensures { result ≡ peer_event_level event.now }
+{
+    match event {
+        PeerEvent::Connecting
+        | PeerEvent::Connected { .. }
+        | PeerEvent::Asked
+        | PeerEvent::Unshared { .. }
+        | PeerEvent::Undefined { .. } => Level::Info,
+        PeerEvent::ResyncEnded { end, .. } => resync_level(*end),
+        PeerEvent::Ended { end, .. } => end_level(*end),
+        PeerEvent::Unreachable { .. }
+        | PeerEvent::Refused { .. }
+        | PeerEvent::Unanswered
+        | PeerEvent::Mismatch { .. }
+        | PeerEvent::Left { .. }
+        | PeerEvent::PassedOver
+        | PeerEvent::Fault { .. } => Level::Warn,
+    }
+}
+
+/// Returns how much the end of a resync matters.
+fn resync_level(end: ResyncEnd) -> Level
+    ensures { result ≡ resync_level end }
+{
+    match end {
+        ResyncEnd::Finished | ResyncEnd::Partial => Level::Info,
+        ResyncEnd::Broken => Level::Warn,
+    }
+}
+
+/// Returns how much the end of a session matters.
+fn end_level(end: SessionEnd) -> Level
+    ensures { result ≡ end_level end }
+{
+    match end {
+        SessionEnd::End | SessionEnd::Replaced => Level::Info,
+        SessionEnd::Silent | SessionEnd::Fault | SessionEnd::Device | SessionEnd::Error => {
+            Level::Warn
+        }
+    }
+}

@@ -1,0 +1,225 @@
+//! How a peer defines its tables, compared with how this node does.
+
+use crate::sessions::Place;
+use admin_port::push_side;
+use node_core::{Defining, Difference, Once, PeerEvent, SaidNames, TableShape};
+use std::alloc::{AllocError, Global};
+use std::sync::Wait;
+use std::time::Clock;
+use table_types::{TableDef, is_same_name};
+use tolerant_intake::Reader;
+
+/// The time between two looks at what a peer has defined, unless it has defined more tables meanwhile, in milliseconds.
+const PAUSE: u64 = 2_500;
+
+/// What the log has said of how a peer defines tables, in all its sessions.
+#[derive(Drop)]
+pub(crate) struct SaidOfTables {
+    /// What it has said of each table of this node, in ascending order of id.
+    tables: Vec<Once>,
+    /// The names of tables that this node lacks.
+    unshared: SaidNames,
+}
+
+impl SaidOfTables {
+    /// Returns what the log has said at first: nothing.
+    pub(crate) fn new(alloc: Global) -> SaidOfTables {
+        SaidOfTables {
+            tables: Vec::new(alloc),
+            unshared: SaidNames::new(alloc),
+        }
+    }
+}
+
+/// The comparison of a peer's tables on a connection with this node's.
+#[derive(Drop)]
+pub(crate) struct Comparison {
+    defining: Defining,
+    /// How many tables the peer had defined at the last look.
+    count: usize,
+    /// When the next look is due at the latest, in milliseconds since the node began.
+    next: u64,
+}
+
+impl Comparison {
+    /// Returns the comparison on a connection that begins.
+    pub(crate) fn new() -> Comparison {
+        Comparison {
+            defining: Defining::new(),
+            count: 0,
+            next: 0,
+        }
+    }
+
+    /// Notes that the peer has taught a resync to its end.
+    pub(crate) fn note_taught(&mut self) {
+        self.defining.teach();
+    }
+
+    /// Looks at what the peer has defined, if that is due: notes what differs, and has the log say what it hasn't said of it.
+    pub(crate) fn look<N: Wait + Clock>(&mut self, place: &Place<'_, N>, reader: &Reader) {
+        let now = place.node.clock.milliseconds(place.rt);
+        let count = reader.received().count();
+        if count == self.count && now < self.next {
+            return;
+        }
+        self.count = count;
+        self.next = now.saturating_add(PAUSE);
+        if count > 0 {
+            self.defining.define(now);
+        }
+        let look = Look {
+            place,
+            reader,
+            all_defined: self.defining.are_all_defined(now),
+        };
+        let mut said = place.slot.said_of_tables(place.rt);
+        let compared = look.compare(&mut said);
+        drop(said);
+        if let Ok(differences) = compared {
+            let mut status = place.slot.status(place.rt);
+            status.differences = differences;
+        }
+    }
+}
+
+/// A look at what a peer has defined.
+#[derive(Drop)]
+struct Look<'a, N> {
+    place: &'a Place<'a, N>,
+    reader: &'a Reader,
+    /// Whether the peer has defined all tables that it will.
+    all_defined: bool,
+}
+
+impl<'a, N: Wait + Clock> Look<'a, N> {
+    /// Returns what differs in each table of this node, in ascending order of id, and has the log say what is news.
+    fn compare(&self, said: &mut SaidOfTables) -> Result<Vec<Option<Difference>>, AllocError> {
+        let node = self.place.node;
+        let mut differences = Vec::new(node.alloc);
+        for (index, table) in node.roster.tables().iter().enumerate() {
+            if said.tables.len() <= index {
+                said.tables.push(Once::new())?;
+            }
+            let difference = match said.tables.get_mut(index) {
+                Some(once) => self.compare_table(table, once)?,
+                None => None,
+            };
+            differences.push(difference)?;
+        }
+        self.look_for_unshared(&mut said.unshared)?;
+        Ok(differences)
+    }
+
+    /// Returns whether the log has room for the line of an event. If not, a later look has it say that.
+    fn has_room(&self, event: &PeerEvent<'_>) -> bool {
+        let place = self.place;
+        place.node.log.has_room(place.rt, place.peer, event)
+    }
+
+    /// Adds a line about the peer to the log.
+    fn log(&self, event: PeerEvent<'_>) {
+        let place = self.place;
+        place.node.log_peer_event(place.rt, place.peer, event);
+    }
+
+    /// Returns how the peer defines the table with this name, if it has defined it.
+    fn defined(&self, name: &[u8]) -> Option<TableShape<'a>> {
+        let table = self.reader.received().named(name)?;
+        Some(match self.reader.loose(table.id()) {
+            Some(loose) => TableShape::new(
+                loose.kind,
+                loose.key_length,
+                loose.types.as_slice(),
+                loose.further,
+            ),
+            None => TableShape::of(table),
+        })
+    }
+
+    /// Returns what differs in a table, and has the log say that, or that the peer hasn't defined the table, if it is news.
+    fn compare_table(
+        &self,
+        table: &TableDef,
+        said: &mut Once,
+    ) -> Result<Option<Difference>, AllocError> {
+        let own = TableShape::of(table);
+        let Some(theirs) = self.defined(table.name()) else {
+            self.look_at_undefined(table.name(), said)?;
+            return Ok(None);
+        };
+        let difference = own.difference(&theirs);
+        match difference {
+            Some(difference) => {
+                self.say_difference(table.name(), difference, &own, &theirs, said)?
+            }
+            None => said.forget(),
+        }
+        Ok(difference)
+    }
+
+    /// Has the log say that the peer hasn't defined a table, if it won't, and that is news.
+    fn look_at_undefined(&self, table: &[u8], said: &mut Once) -> Result<(), AllocError> {
+        let event = PeerEvent::Undefined { table };
+        if self.all_defined
+            && self.has_room(&event)
+            && said.is_news(self.place.node.alloc, b"undefined")?
+        {
+            self.log(event);
+        }
+        Ok(())
+    }
+
+    /// Has the log say how the peer defines a table, and how this node does, if that is news.
+    fn say_difference(
+        &self,
+        table: &[u8],
+        difference: Difference,
+        own: &TableShape<'_>,
+        theirs: &TableShape<'_>,
+        said: &mut Once,
+    ) -> Result<(), AllocError> {
+        let alloc = self.place.node.alloc;
+        let mut ours = Vec::new(alloc);
+        push_side(alloc, &mut ours, difference, own, theirs)?;
+        let mut its = Vec::new(alloc);
+        push_side(alloc, &mut its, difference, theirs, own)?;
+        let event = PeerEvent::Mismatch {
+            table,
+            difference,
+            theirs: its.as_slice(),
+            ours: ours.as_slice(),
+        };
+        if self.has_room(&event) && said.is_news(alloc, its.as_slice())? {
+            self.log(event);
+        }
+        Ok(())
+    }
+
+    /// Returns whether this node has a table with this name.
+    fn is_shared(&self, name: &[u8]) -> bool {
+        let tables = self.place.node.roster.tables();
+        tables.iter().any(|table| is_same_name(table.name(), name))
+    }
+
+    /// Has the log say which tables the peer has defined that this node lacks, each once.
+    fn look_for_unshared(&self, said: &mut SaidNames) -> Result<(), AllocError> {
+        let received = self.reader.received();
+        let mut id = 0;
+        for _ in 0..received.count() {
+            let Some(table) = received.table_above(id) else {
+                return Ok(());
+            };
+            id = table.id();
+            let name = table.name();
+            let event = PeerEvent::Unshared { table: name };
+            if !self.is_shared(name)
+                && self.has_room(&event)
+                && said.is_news(self.place.node.alloc, name)?
+            {
+                self.log(event);
+            }
+        }
+        Ok(())
+    }
+}
