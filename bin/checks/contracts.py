@@ -1,10 +1,10 @@
 #!/usr/bin/env python3
-"""Tests that each contract that README.md and docs/*.md name exists.
+"""Tests that each contract that README.md and docs/*.md name exists, and each check of bin/checks/staying.py.
 
 Looks at each code span in the columns of a table that name contracts (`COLUMNS`), and at each span elsewhere that begins with a crate:
 `CRATE::NAME` or `CRATE::TYPE::NAME`, with the labels of its clauses after commas. In a cell, a later span may leave out the crate and
-the type, or be the label of a clause alone; one that names no function may name a type, a trait, a module or a definition. Prints each
-span that names nothing, with its line, and then has status 1.
+the type, or be the label of a clause alone; one that names no function may name a type, a trait, a module or a definition. Checks are
+named in the columns `Checks`. Prints each span that names nothing, with its line, and then has status 1.
 """
 
 import pathlib
@@ -19,6 +19,8 @@ CLAUSE = re.compile(r"^ *ensures\*? ([a-z_0-9]+) \{")
 DEFINED = re.compile(r"^(?:\w+ )?pub (?:(?:abbrev|record|data) )?(\w+) ", re.M)
 FIELD = re.compile(r"^ +pub (\w+) :", re.M)
 COLUMNS = ("Contract", "Where", "For users of the library", "In the program")
+CHECK = re.compile(r"^@check\ndef (\w+)\(", re.M)
+CHECK_NAME = re.compile(r"[a-z0-9]+(?:-[a-z0-9]+)*")
 SPAN = re.compile(r"`([^`]+)`")
 NAMED = re.compile(r"\w+(?:::\w+)*(?:, [a-z_0-9]+)*")
 
@@ -152,13 +154,27 @@ def complaints(crates, path):
                 yield f"{path.relative_to(TOP)}:{number}: `{span}`: there is no {', '.join(lost)}"
 
 
+def checks_of(top):
+    """Returns the names of the checks of a node that stays."""
+    texts = [path.read_text(encoding="utf-8") for path in (top / "bin" / "staying").glob("*.py")]
+    return {name.replace("_", "-") for text in texts for name in CHECK.findall(text)}
+
+
+def lost_checks(checks, path):
+    for number, heading, text in cells(path.read_text(encoding="utf-8").split("\n")):
+        for span in SPAN.findall(text) if heading == "Checks" else ():
+            if CHECK_NAME.fullmatch(span) and span not in checks:
+                yield f"{path.relative_to(TOP)}:{number}: `{span}`: there is no such check"
+
+
 def crates_of(top):
     return {it.name: Crate(it) for it in sorted((top / "crates").iterdir()) if it.is_dir()}
 
 
 def main():
-    crates = crates_of(TOP)
-    said = [it for path in (TOP / "README.md", *sorted(TOP.glob("docs/*.md"))) for it in complaints(crates, path)]
+    crates, checks = crates_of(TOP), checks_of(TOP)
+    documents = (TOP / "README.md", *sorted(TOP.glob("docs/*.md")))
+    said = [it for path in documents for it in (*complaints(crates, path), *lost_checks(checks, path))]
     for it in said:
         print(it)
     return 1 if said else 0

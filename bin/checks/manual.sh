@@ -60,7 +60,13 @@ alerts_are_sound() {
     done
 }
 
+# 9100 is the port of Prometheus's node_exporter.
+no_port_of_another() {
+    if grep -nrw -e 9100 README.md docs dist examples/mistakes examples/warnings; then fail 'an example has port 9100'; else pass; fi
+}
+
 manual() {
+    no_port_of_another
     shown 'node node' >"$scene"
     if [ -s "$scene" ]; then checked_is taken 'the configuration in the manual page'; else fail 'the manual page shows no configuration'; fi
     ! has man 'the manual page' || page_is_sound

@@ -7,6 +7,10 @@
                                       the same of a node that meets a scripted far side; `rejoin` is `join`, refused once for its version
   refusing.py tests PROGRAM TEST..    each run of each test of a crate of tests passes; prints for which calls memory ran out
   refusing.py --all ..                the allocations after the refused one are refused as well
+  refusing.py running PID             the same of a process that runs, as the lines on standard input say: `refuse` has all that it asks for
+                                      refused from then on, `refuse in TID` all that this thread of it asks for, `refuse N` the N-th time
+                                      that it asks alone, and `allow` ends that. Each line is answered with how many were refused since
+                                      the last `refuse`, and of how many; so is the end of the process. It ends then, or with its input
 
 Standard input is FILE, or that of refusing.py. It prints what it counted, and the status is 0, or what went wrong, and 1.
 
@@ -25,7 +29,7 @@ import sys
 import threading
 import time
 
-TRACEME, CONT, KILL_AT_END, TRACE_THREADS = 0, 7, 0x100000, 8
+TRACEME, CONT, SEIZE, KILL_AT_END, TRACE_THREADS = 0, 7, 0x4206, 0x100000, 8
 GET_REGISTERS, SET_REGISTERS, SET_OPTIONS = 12, 13, 0x4200
 ALL_THREADS = 0x40000000
 ENTRY = 9
@@ -48,29 +52,44 @@ def ptrace(request, pid, data=None):
         raise OSError(ctypes.get_errno(), f"ptrace {request}")
 
 
+def symbols(data):
+    """Returns the symbols of a program, each with its name, where it begins and its size, as its file has them."""
+    sections, size, count = struct.unpack_from("<Q", data, 40)[0], *struct.unpack_from("<HH", data, 58)
+    headers = [struct.unpack_from("<IIQQQQIIQQ", data, sections + i * size) for i in range(count)]
+    for _, kind, _, _, at, length, link, *_ in headers:
+        if kind == 2:
+            names = headers[link][4]
+            for symbol in range(at, at + length, 24):
+                name, _, _, _, value, extent = struct.unpack_from("<IBBHQQ", data, symbol)
+                yield data[names + name : data.index(b"\0", names + name)], value, extent
+
+
 def places(program):
     """Returns the program's entry, and the addresses of the functions that allocate, as its file has them."""
     with open(program, "rb") as file:
         data = file.read()
-    entry, sections, size, count = (
-        struct.unpack_from("<Q", data, 24)[0],
-        struct.unpack_from("<Q", data, 40)[0],
-        *struct.unpack_from("<HH", data, 58),
-    )
-    headers = [struct.unpack_from("<IIQQQQIIQQ", data, sections + i * size) for i in range(count)]
-    found = []
-    for _, kind, _, _, at, length, link, *_ in headers:
-        if kind != 2:
-            continue
-        names = headers[link][4]
-        for symbol in range(at, at + length, 24):
-            name, _, _, _, value, _ = struct.unpack_from("<IBBHQQ", data, symbol)
-            text = data[names + name : data.index(b"\0", names + name)]
-            if text in (b"rattle_alloc", b"rattle_realloc"):
-                found.append(value)
+    found = [value for name, value, _ in symbols(data) if name in (b"rattle_alloc", b"rattle_realloc")]
     if not found:
         raise SystemExit(f"{program}: no symbol rattle_alloc")
-    return entry, found
+    return struct.unpack_from("<Q", data, 24)[0], found
+
+
+def starts(pid, entry, offsets):
+    """Returns where the functions begin in a process, of which the program has them at these offsets."""
+    with open(f"/proc/{pid}/auxv", "rb") as file:
+        pairs = dict(struct.iter_unpack("<QQ", file.read()))
+    return {offset + pairs[ENTRY] - entry for offset in offsets}
+
+
+def go_on(tid, registers, memory, refuses):
+    """Has a thread go on that is about to allocate, or refuses what it asks for."""
+    if refuses:
+        registers[RIP] = struct.unpack("<Q", os.pread(memory, 8, registers[RSP]))[0]
+        registers[RSP] += 8
+        registers[RAX], registers[RDX] = 0, 4096
+    else:
+        registers[RIP] += len(NOTHING) - 1
+    ptrace(SET_REGISTERS, tid, ctypes.byref(registers))
 
 
 class Traced:
@@ -95,9 +114,7 @@ class Traced:
         os.waitpid(self.pid, 0)
         ptrace(SET_OPTIONS, self.pid, KILL_AT_END | TRACE_THREADS)
         self.memory = os.open(f"/proc/{self.pid}/mem", os.O_RDWR)
-        with open(f"/proc/{self.pid}/auxv", "rb") as file:
-            pairs = dict(struct.iter_unpack("<QQ", file.read()))
-        self.stops = {offset + pairs[ENTRY] - self.entry for offset in self.offsets}
+        self.stops = starts(self.pid, self.entry, self.offsets)
         for stop in self.stops:
             if os.pread(self.memory, 4, stop) != NOTHING:
                 raise SystemExit(f"{program}: rattle_alloc does not begin with endbr64")
@@ -106,14 +123,9 @@ class Traced:
     def allocates(self, tid, registers, first, others):
         """Lets a thread go on that is about to allocate, or refuses what it asks for."""
         self.calls += 1
-        if self.calls == first or (others and self.calls > first):
-            self.refused = True
-            registers[RIP] = struct.unpack("<Q", os.pread(self.memory, 8, registers[RSP]))[0]
-            registers[RSP] += 8
-            registers[RAX], registers[RDX] = 0, 4096
-        else:
-            registers[RIP] += len(NOTHING) - 1
-        ptrace(SET_REGISTERS, tid, ctypes.byref(registers))
+        refuses = self.calls == first or (others and self.calls > first)
+        self.refused = self.refused or refuses
+        go_on(tid, registers, self.memory, refuses)
         if self.refused and not others:
             for stop in self.stops:
                 os.pwrite(self.memory, NOTHING[:1], stop)
@@ -151,6 +163,111 @@ class Traced:
         for file in (self.memory, *self.files):
             os.close(file)
         return Run(code, *written, self.calls, self.refused)
+
+
+# --- A process that runs
+
+
+class Running:
+    """A process that runs, of which allocations are refused at times. `calls` and `refused` count since that began last."""
+
+    def __init__(self, pid):
+        self.pid = pid
+        self.memory = os.open(f"/proc/{pid}/mem", os.O_RDWR)
+        self.stops = starts(pid, *places(f"/proc/{pid}/exe"))
+        self.lock = threading.Lock()
+        self.only, self.thread, self.calls, self.refused = None, None, 0, 0
+        self.stopping = False
+        for stop in self.stops:
+            if os.pread(self.memory, 4, stop) != NOTHING:
+                raise SystemExit("rattle_alloc does not begin with endbr64")
+        known = set()
+        while left := set(os.listdir(f"/proc/{pid}/task")) - known:
+            for tid in left:
+                self.seize(int(tid))
+            known |= left
+
+    def seize(self, tid):
+        """Takes a thread, unless it has ended, or was taken as one that another thread started."""
+        try:
+            ptrace(SEIZE, tid, TRACE_THREADS)
+        except OSError:
+            pass
+
+    def stop_at_all(self, stopping):
+        """Has the process stop at its allocations, or no longer."""
+        self.stopping = stopping
+        for stop in self.stops:
+            os.pwrite(self.memory, STOP if stopping else NOTHING[:1], stop)
+
+    def obey(self, line):
+        """Does what a line says, and returns what answers it."""
+        word, *more = line.split()
+        with self.lock:
+            if word == "refuse":
+                self.only, self.thread = (int(more[-1]) if len(more) == length else None for length in (1, 2))
+                self.calls, self.refused = 0, 0
+            self.stop_at_all(word == "refuse")
+            return self.counts()
+
+    def counts(self):
+        return f"{self.refused} of {self.calls}"
+
+    def refuses(self, tid):
+        """Counts an allocation of a thread, and returns whether it is refused."""
+        with self.lock:
+            if not self.stopping or self.thread not in (None, tid):
+                return False
+            self.calls += 1
+            refuses = self.only in (None, self.calls)
+            self.refused += refuses
+            if self.only == self.calls:
+                self.stop_at_all(False)
+            return refuses
+
+    def stopped(self, tid, status):
+        """Lets a thread go on that stopped."""
+        given = os.WSTOPSIG(status)
+        if given == signal.SIGTRAP and not status >> 16:
+            registers = (ctypes.c_ulonglong * REGISTERS)()
+            ptrace(GET_REGISTERS, tid, ctypes.byref(registers))
+            if registers[RIP] - 1 in self.stops:
+                go_on(tid, registers, self.memory, self.refuses(tid))
+            given = 0
+        ptrace(CONT, tid, 0 if status >> 16 else given)
+
+    def watch(self):
+        """Lets its threads go on whenever they stop, until it ends."""
+        while True:
+            try:
+                tid, status = os.waitpid(-1, ALL_THREADS)
+            except ChildProcessError:
+                return
+            if os.WIFSTOPPED(status):
+                try:
+                    self.stopped(tid, status)
+                except ProcessLookupError:
+                    pass
+            elif tid == self.pid:
+                return
+
+
+def listen(running):
+    """Obeys the lines of standard input to their end, and ends then."""
+    for line in sys.stdin:
+        print(running.obey(line), flush=True)
+    running.obey("allow")
+    os._exit(0)
+
+
+def watch_running(pid):
+    """Refuses what a process asks for as standard input says, and prints at its end how much was refused of how much."""
+    running = Running(pid)
+    print(running.counts(), flush=True)
+    threading.Thread(target=listen, args=(running,), daemon=True).start()
+    running.watch()
+    print(running.counts(), flush=True)
+    return 0
 
 
 # --- A far side
@@ -307,6 +424,8 @@ def tells_test(what, whole, runs, others):
 def main(words):
     others = words[:1] == ["--all"]
     kind, program, *words = words[others:]
+    if kind == "running":
+        return watch_running(int(program))
     program = os.path.abspath(program)
     given = b""
     if kind in NODES:

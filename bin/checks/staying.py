@@ -23,7 +23,8 @@ sys.path[0] = os.path.join(top, 'bin')
 from peering.ports import Ports  # noqa: E402, since the path has to be set first
 from peering.trial import CHECKS, Skipped, Trial, Wrong  # noqa: E402
 from staying import (  # noqa: E402, F401
-    balancers, clocks, definitions, hostile, logs, measures, meshes, ports, requests, resyncs, sessions, starting,
+    balancers, clocks, definitions, hostile, lacking, logs, measures, memory, meshes, ports, renewals, requests, resyncs,
+    sessions, starting,
 )
 
 AT_ONCE = 20
@@ -32,11 +33,13 @@ LIMIT = 600
 # So many checks may be tried a second time, on a host that was too slow for all of them at once.
 AGAIN = 3
 # Those that take longest, which begin first.
-LONGEST = """asks-again-after-a-minute clock-heartbeats clock-jumps clock-of-a-mute-peer three-faults idle-clients metrics-idle million-changes stops-beside-scrapes clock-of-slow-clients clock-of-lags suspended haproxy-starts-again haproxy-that-connects
-    haproxy-that-is-connected-to haproxy-of-version-2-0 haproxy-that-differs lacking-tables many-tables-differ deaf stops-beside-the-deaf heartbeats heartbeats-of-a-connector idle bytes-are-enough
-    a-byte-a-second reads-slowly
-    silent silent-to-a-connector two-of-three-killed
-    killed-and-started-again stopped-and-started-again no-answer-to-a-hello refused-by-a-status falls-back""".split()
+LONGEST = """asks-again-after-a-minute clock-heartbeats clock-jumps clock-of-a-mute-peer three-faults idle-clients metrics-idle
+    million-changes each-allocation-of-a-session soak memory-of-many-clients stops-beside-scrapes clock-of-slow-clients clock-of-lags
+    suspended  sends-without-pause clock-of-a-peer-without-end haproxy-starts-again haproxy-that-connects
+    haproxy-that-is-connected-to haproxy-of-version-2-0 haproxy-that-differs haproxy-that-differs-otherwise lacking-tables
+    many-tables-differ deaf stops-beside-the-deaf heartbeats heartbeats-of-a-connector idle bytes-are-enough a-byte-a-second reads-slowly
+    silent silent-to-a-connector two-of-three-killed killed-and-started-again stopped-and-started-again no-answer-to-a-hello
+    refused-by-a-status falls-back""".split()
 
 
 trials = []

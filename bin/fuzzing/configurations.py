@@ -133,6 +133,14 @@ def is_here(address):
     return is_every(address) or address == ipaddress.IPv6Address('::1') or address in ipaddress.IPv6Network('::ffff:127.0.0.0/104')
 
 
+def network_of(word):
+    """Returns the network that a word writes, of IPv6 addresses: IPv4 addresses are those that they are mapped to."""
+    host, _, bits = word.decode().partition('/')
+    if ':' in host:
+        return ipaddress.IPv6Network((host, int(bits or 128)), strict=False)
+    return ipaddress.IPv6Network(('::ffff:' + host, 96 + int(bits or 32)), strict=False)
+
+
 def address_warnings(said, number, words):
     """Returns the number of the line for each warning of its address."""
     place = place_of(words)
@@ -144,9 +152,11 @@ def address_warnings(said, number, words):
         return [number] * (port == listened)
     if words[0] == b'metrics':
         return [number] * any(port == taken and (address == other or is_every(address) or is_every(other)) for other, taken in own.values())
-    if port == listened and (address == listen or is_every(address) and is_here(listen) or is_here(address) and is_every(listen)):
-        return [number]
-    return [number] * any(place_of(other) == place for line, other in said if other[0] == b'peer' and line < number)
+    taken = port == listened and (address == listen or is_every(address) and is_here(listen) or is_here(address) and is_every(listen))
+    taken = taken or any(place_of(other) == place for line, other in said if other[0] == b'peer' and line < number)
+    networks = [network_of(word) for word in words[4:]]
+    outside = networks and not any(address in network for network in networks)
+    return [number] * (bool(taken) + bool(outside))
 
 
 def table_warnings(number, words):
@@ -154,7 +164,7 @@ def table_warnings(number, words):
     _, _, name, kind, length, expire, *types = words
     periods = [int(word.split(b':')[1]) for word in types if b':' in word]
     found = (b'/' in name[1:] and name[:1] != b'/', kind == b'string' and (int(length) % 4 == 0 or int(length) % 10 == 0), int(expire) > LONGEST,
-             any(period > LONGEST for period in periods))
+             any(period > LONGEST for period in periods), (b'server_id' in types) != (b'server_key' in types))
     return [number] * sum(found)
 
 
@@ -162,8 +172,11 @@ def warned(data):
     """Returns the number of the line for each warning of a configuration that is taken, and `configuration` if it has no peers."""
     said = statements(data)
     numbers = []
+    sections = any(words[0] == b'table' and words[2][:1] == b'/' for _, words in said)
     for number, words in said:
         numbers += address_warnings(said, number, words)
+        if words[0] == b'section' and not sections:
+            numbers.append(number)
         if words[0] == b'table':
             numbers += table_warnings(number, words)
     return numbers + ['configuration'] * all(words[0] != b'peer' for _, words in said)

@@ -34,7 +34,8 @@ USUAL_PATIENCE = 5
 # How many acts a case with several rounds plays at most, over all rounds.
 MOST_ACTS = 30
 # Where the log may say a name that a stranger chose.
-CHOSEN = re.compile(rb'(event=hello-refused status=[0-9]+) peer=[!-~]+|(event=unshared peer=[!-~]+ address=[!-~]+) table=[!-~]+')
+CHOSEN = re.compile(rb'(event=hello-refused status=[0-9]+) peer=[!-~]+(?:( address=[!-~]+) (?:called|protocol)=[!-~]+)?|'
+                    rb'(event=unshared peer=[!-~]+ address=[!-~]+) table=[!-~]+|(event=wrong-port port=[a-z]+) peer=[!-~]+')
 
 ports = None
 
@@ -208,7 +209,7 @@ class Stand:
     def judge_log(self, log):
         """The log has whole lines, and nothing that a peer chose but names where it may say them."""
         all_said(log)
-        log = CHOSEN.sub(rb'\1\2', log)
+        log = CHOSEN.sub(rb'\1\2\3\4', log)
         for spelling in SPELLINGS:
             require(spelling not in log, 'the log', 'has what a peer chose:', log[max(0, log.find(spelling) - 100):][:300])
 

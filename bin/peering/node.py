@@ -96,6 +96,7 @@ class Node:
 
     def __init__(self, trial, name='n', peers=('b',), tables=(T1,), more=(), port=None, host='127.0.0.1', admin=True):
         self.trial = trial
+        self.program = trial.program
         self.name = name
         self.host = host
         self.port = port or trial.ports.next()
@@ -124,7 +125,7 @@ class Node:
         """Starts it."""
         self.output, self.errors = tempfile.TemporaryFile(), tempfile.TemporaryFile()
         self.started = time.monotonic()
-        self.child = subprocess.Popen([*self.within, self.trial.program, 'run'], stdin=subprocess.PIPE, stdout=self.output, stderr=self.errors,
+        self.child = subprocess.Popen([*self.within, self.program, 'run'], stdin=subprocess.PIPE, stdout=self.output, stderr=self.errors,
                                       env=self.environment)
         try:
             self.child.stdin.write(self.configuration.encode())

@@ -60,6 +60,12 @@ class Trial:
         self.nodes = []
         self.open = []
 
+    def measures_memory(self):
+        """Skips the check if the program is built with a sanitizer, which keeps memory that is freed."""
+        with open(self.program, 'rb') as file:
+            if b'__asan_init' in file.read():
+                raise Skipped('the program is built with a sanitizer')
+
     def closes(self, thing):
         """Notes something that is to be closed at the end, and returns it."""
         self.open.append(thing)
@@ -77,6 +83,8 @@ CHECKS = {}
 
 
 def check(function):
-    """Notes a check, under the name of its function."""
-    CHECKS[function.__name__.replace('_', '-')] = function
+    """Notes a check, under the name of its function, which no other one has."""
+    name = function.__name__.replace('_', '-')
+    require(name not in CHECKS, 'two checks have the name', name)
+    CHECKS[name] = function
     return function

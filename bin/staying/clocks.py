@@ -13,6 +13,7 @@ import time
 
 from fuzzing.messages import acknowledgement
 from peering.far import CONFIRMED, FINISHED, HEARTBEAT, PARTIAL, REQUEST, Manners, connected
+from peering.lessons import definition, table, update
 from peering.node import T1, Admin, Node
 from peering.trial import Skipped, check, equal, require, wait
 from staying.logs import refused
@@ -122,7 +123,7 @@ def clock_jumps(trial):
 
 @check
 def clock_of_a_mute_peer(trial):
-    """a peer that was asked is waited for for 5,000 ms, and asked again 60,000 ms after it was asked, not a ms sooner"""
+    """a peer that was asked has 5,000 ms, and is asked again 60,000 ms after it was asked, not a ms sooner"""
     node = Clocked(trial, peers=('b', 'c'), tables=(T1,)).start()
     first = connected(trial, node, 'b', KEEPS_QUIET)
     first.gets(REQUEST, SOON)
@@ -148,6 +149,40 @@ def clock_of_a_mute_peer(trial):
     second.gets(REQUEST, SOON, 2)
     second.send(FINISHED)
     up_to_date(node)
+
+
+def brings_on(far, there, number):
+    """Has a far side bring a row, and waits until the node has it."""
+    far.send(update(there, number, number, (1,)))
+    far.gets_ack(there.id, number, SOON)
+
+
+@check
+def clock_of_a_peer_without_end(trial):
+    """a peer that brings a row each 4,999 ms and never ends its resync has 600,000 ms, not a ms more; what it brings later counts"""
+    node = Clocked(trial, peers=('b', 'c'), tables=(T1,)).start()
+    endless = connected(trial, node, 'b', KEEPS_QUIET)
+    endless.gets(REQUEST, SOON)
+    other = connected(trial, node, 'c', KEEPS_QUIET)
+    there = table(9, 't1')
+    for far in (endless, other):
+        far.send(definition(there))
+    moments = [*range(0, 600_000, 4_999), 599_999]
+    for number, moment in enumerate(moments, 1):
+        node.at(moment)
+        for far in (endless, other):
+            brings_on(far, there, number)
+    time.sleep(1)
+    equal((other.count(REQUEST), node.logged('unanswered')), (0, []), 'requests to the other one, and lines, a ms before')
+    node.at(600_000)
+    said, = node.logs('unanswered', peer='b')
+    equal((said.keys['why'], 'ten minutes' in said.sentence), ('endless', True), 'the line: ' + said.sentence)
+    other.gets(REQUEST, SOON)
+    brings_on(endless, there, len(moments) + 1)
+    equal((len(node.ask('show rows')), node.head()['up_to_date']), (len(moments) + 1, 'no'), 'rows, and whether the node is up to date')
+    endless.send(FINISHED)
+    up_to_date(node)
+    equal((endless.count(REQUEST), other.count(REQUEST)), (1, 1), 'requests')
 
 
 @check

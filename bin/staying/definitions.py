@@ -109,6 +109,12 @@ def differences_once(trial):
     require('http_req_rate(10s)' in says(node, 'mismatch', 3)[2], 'the log has the first period again', node.said())
 
 
+def counted(node, what, count, peer='b'):
+    """Waits until a metric and the line of a peer say how many tables only one side has."""
+    node.shows('digbaro_tables_%s{peer="%s"}' % (what, peer), count)
+    equal(node.peer(peer)[what], str(count), 'tables that are ' + what)
+
+
 @check
 def lacking_tables(trial):
     """tables that this node lacks are said once, and its own that a peer didn't define 10 s after its first, if it has taught all it has"""
@@ -118,6 +124,7 @@ def lacking_tables(trial):
     define(far, ALIKE, table(17, 'other'), table(18, 'x\x01 y'))
     begun = time.monotonic()
     equal(tables_in(says(node, 'unshared', 2)), ['other', '0x78012079'], 'tables that this node lacks')
+    counted(node, 'unshared', 2)
     far.send(FINISHED)
     wait(lambda: node.is_up_to_date(), 3, 'the node is up to date', node.said)
     # One that isn't asked defines a table only with its first row to push.
@@ -128,10 +135,21 @@ def lacking_tables(trial):
     found = says(node, 'undefined', len(TABLES) - 1)
     require(time.monotonic() < begun + 14, 'tables that were not defined are said in time', time.monotonic() - begun)
     equal(tables_in(found), [name for name in TABLE_NAMES if name != 'alike'], 'tables that were not defined')
+    counted(node, 'undefined', len(TABLES) - 1)
+    counted(node, 'unshared', 2)
     equal((node.peer('b')['mismatched'], node.metric('digbaro_tables_mismatched{peer="b"}')), ('0', 0), 'how many differ')
     time.sleep(4)
     equal(lines(node, 'undefined', 'c'), [], 'tables of a peer that was not asked')
     equal(len(lines(node, 'unshared')), 2, 'lines about tables that this node lacks, later')
+    counted(node, 'undefined', 0, 'c')
+    far.close()
+    counted(node, 'unshared', 0)
+    counted(node, 'undefined', len(TABLES) - 1)
+    far = connected(trial, node)
+    define(far, ALIKE, PERIODS)
+    counted(node, 'undefined', len(TABLES) - 2)
+    define(far, *DIFFERENT, FURTHER)
+    counted(node, 'undefined', 0)
 
 
 def each_named(node, event, names, seconds):
@@ -176,27 +194,28 @@ def many_tables_left(trial):
     far.stands()
 
 
+def table_line(node, name):
+    """Returns what a node says of a table that it shares with a HAProxy."""
+    return next(fields(line) for line in node.ask('show peers') if line.startswith('table h %s ' % name))
+
+
 @check
 def haproxy_that_differs(trial):
     """a HAProxy takes rows of a table with another period and gives none; with another length, none go either way; both are said and shown"""
     pair = Pair(trial, changes=(('http_req_rate(10s)', 'http_req_rate(20s)'), ('string len 32', 'string len 40')))
     node, balancer = pair.node, pair.balancer
     pair.connected()
-
-    def table_line(name):
-        return next(fields(line) for line in node.ask('show peers') if line.startswith('table h %s ' % name))
-
     for _ in range(3):
         wait(lambda: node.count(1), 7, 'the node counts', pause=0.2)
         wait(lambda: balancer.count(2), 7, 'the HAProxy counts', pause=0.2)
     require(node.stick('k1') and balancer.stick('k2'), 'both choose a server')
     wait(lambda: balancer.rows().get(('ints', 1)) == 3, 5, 'the HAProxy takes a row with another period', balancer.rows)
-    wait(lambda: table_line('names')['left'] == 'yes', 6, 'the table with another length is left', lambda: node.ask('show peers'))
+    wait(lambda: table_line(node, 'names')['left'] == 'yes', 6, 'the table with another length is left', lambda: node.ask('show peers'))
     equal(sorted(node.rows()), [('ints', 1), ('names', 'k1')], 'the rows of the node')
     equal(sorted(balancer.rows()), [('ints', 1), ('ints', 2), ('names', 'k2')], 'the rows of the HAProxy')
-    ints = table_line('mesh/ints')
+    ints = table_line(node, 'mesh/ints')
     require(ints['taught'] == ints['acknowledged'] != '0', 'the rows with another period are acknowledged', ints)
-    equal((ints['mismatch'], ints['left'], table_line('names')['mismatch']), ('period', 'no', 'length'), 'what differs')
+    equal((ints['mismatch'], ints['left'], table_line(node, 'names')['mismatch']), ('period', 'no', 'length'), 'what differs')
     equal(pair.line()['mismatched'], '2', 'how many differ')
     said = [line for _, line in node.said if ' event=mismatch ' in line]
     for sides in (('http_req_rate(20s)', 'http_req_rate(10s)'), ('type string len 40 (key length 41)', 'type string len 32 (key length 33)')):
@@ -211,4 +230,27 @@ def haproxy_that_differs(trial):
     wait(lambda: pair.line()['mismatched'] == '0', 8, 'no table differs after the reload', lambda: node.ask('show peers'))
     wait(lambda: balancer.count(2), 7, 'the HAProxy counts', pause=0.2)
     wait(lambda: node.rows().get(('ints', 2)) == balancer.rows().get(('ints', 2)), 5, 'the node has the row', node.rows)
+    equal((balancer.faults()['proto_err'], pair.line()['faults']), (0, '0'), 'faults')
+
+
+@check
+def haproxy_that_differs_otherwise(trial):
+    """a HAProxy takes the values of the data types that it has, and gives none; with another kind of keys, no row goes either way"""
+    pair = Pair(trial, changes=(('store gpc0,http_req_rate(10s)', 'store gpc0'), ('stick-table type string len 32', 'stick-table type integer')))
+    node, balancer = pair.node, pair.balancer
+    pair.connected()
+    for _ in range(3):
+        wait(lambda: node.count(1), 7, 'the node counts', pause=0.2)
+        wait(lambda: balancer.count(2), 7, 'the HAProxy counts', pause=0.2)
+    require(node.stick('3') and balancer.stick('4'), 'both choose a server')
+    wait(lambda: balancer.rows().get(('ints', 1)) == 3, 5, 'the HAProxy takes what it stores of a row with a further data type', balancer.rows)
+    wait(lambda: table_line(node, 'names')['left'] == 'yes', 6, 'the table with another kind is left', lambda: node.ask('show peers'))
+    equal(sorted(node.rows()), [('ints', 1), ('names', '3')], 'the rows of the node')
+    equal(sorted(balancer.rows()), [('ints', 1), ('ints', 2), ('names', '4')], 'the rows of the HAProxy')
+    ints = table_line(node, 'mesh/ints')
+    require(ints['taught'] == ints['acknowledged'] != '0', 'the rows with a further data type are acknowledged', ints)
+    equal((ints['mismatch'], ints['left'], table_line(node, 'names')['mismatch']), ('types', 'no', 'kind'), 'what differs')
+    said = [line for _, line in node.said if ' event=mismatch ' in line]
+    for sides in (('store gpc0', 'store gpc0,http_req_rate(10s)'), ('type integer', 'type string')):
+        require(any(sides[0] in line and sides[1] in line.split(sides[0], 1)[1] for line in said), 'the log has both sides', sides, said)
     equal((balancer.faults()['proto_err'], pair.line()['faults']), (0, '0'), 'faults')

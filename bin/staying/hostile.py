@@ -2,6 +2,7 @@
 
 import contextlib
 import random
+import threading
 import time
 
 from fuzzing.messages import DEFINITION, TABLE_CLASS, encoded, message
@@ -13,7 +14,7 @@ from peering.lessons import definition, switch, table, update
 from peering.node import T1, Node, address
 from peering.trial import between, check, equal, require, wait
 from staying.resyncs import long_rows
-from staying.sessions import T1_THERE, node_of_b, up_to_date
+from staying.sessions import T1_THERE, beats, node_of_b, up_to_date
 
 ST = 'table 2 st string 33 0 server_key'
 ST_THERE = table(78, 'st', 'string', types=('server_key',))
@@ -330,3 +331,41 @@ def deaf(trial):
         time.sleep(1)
     equal(node.peer('b')['last_end'], 'device', 'the end')
     c.stands()
+
+
+def sends_on(far, data):
+    """Has a far side send bytes again and again until its connection is over."""
+    peer = far.peer.dup()
+    peer.settimeout(60)
+
+    def play():
+        with contextlib.closing(peer), contextlib.suppress(OSError):
+            while far.over is None:
+                peer.sendall(data)
+    threading.Thread(target=play, daemon=True).start()
+
+
+@check
+def sends_without_pause(trial):
+    """a peer that sends without pause gets a heartbeat every 3.0 to 3.3 s, a table that it doesn't acknowledge is left in time, and others are served"""
+    node = node_of_b(trial, peers=('b', 'c'), tables=(T1, 'table 2 t2 integer 4 0 gpc0'))
+    c = connected(trial, node, 'c')
+    up_to_date(node)
+    far = connected(trial, node, manners=Manners(beats=False, passed=('t1',)))
+    time.sleep(0.5)
+    sends_on(far, message(5, 128, bytes(1000)) * 50)
+    time.sleep(0.5)
+    begun = time.monotonic()
+    for name in ('t1', 't2'):
+        node.ask('track %s 7 add gpc0 1' % name)
+        for one in (far, c):
+            one.gets_row(name, 7, (1,), 2)
+    wait(lambda: node.shared('b', 't1')['left'] == 'yes', 4, 'the table is left')
+    between(1.5, time.monotonic() - begun, 4, 'seconds until it is left')
+    beats(far)
+    equal((node.shared('b', 't1')['left'], node.shared('b', 't2')['left']), ('yes', 'no'), 'tables that are left')
+    before = node.metric('digbaro_bytes_received_total')
+    time.sleep(0.5)
+    require(node.metric('digbaro_bytes_received_total') - before > 1_000_000, 'it sends on')
+    c.stands()
+    between(0, node.stop(), 5, 'seconds until it has ended')

@@ -3,11 +3,12 @@
 import hashlib
 import os
 import re
+import subprocess
 import time
 from datetime import datetime, timezone
 
-from peering.far import FINISHED, REQUEST, Door, Manners, connected, hello, kept_open, status_of
-from peering.lessons import definition, update
+from peering.far import FINISHED, PROTOCOL_ERROR, REQUEST, Door, Manners, connected, hello, is_closed, kept_open, status_of
+from peering.lessons import definition, switch, update
 from peering.node import T1, Node, address
 from peering.trial import Skipped, between, check, equal, matches, require, wait
 from staying.sessions import KEEPS_QUIET, T1_THERE, node_of_b, up_to_date
@@ -44,6 +45,22 @@ def log_of_a_start(trial):
 
 
 @check
+def log_of_warnings(trial):
+    """the log of a start says what in the configuration is surely meant otherwise, in the lines of --check but for `warning`, at most five"""
+    tables = tuple('table %d mesh/t%d integer 4 0 gpc0' % (at, at) for at in range(1, 8))
+    for more, count in ((('section mesh',), 5), ((), 5), ((), 1)):
+        node = Node(trial, peers=(), tables=tables if count > 1 else (T1,), more=more).start()
+        checked = subprocess.run([trial.program, 'run', '--check'], input=node.configuration.encode(), capture_output=True, timeout=10, check=True)
+        wanted = [line.replace(': warning: ', ': ', 1) for line in checked.stderr.decode('ascii').splitlines()]
+        said = node.logs('configuration-warning', count)
+        equal([(line.level, line.keys, line.sentence) for line in said], [('warn', {}, line) for line in wanted[:count]], 'lines about warnings')
+        if len(wanted) > count:
+            omitted, = node.logs('omitted', of='configuration-warning')
+            equal(omitted.keys['count'], str(len(wanted) - count), 'how many were left out')
+        node.stop()
+
+
+@check
 def log(trial):
     """the log says each change of a session: its begin, who was asked, the ends of resyncs with their rows and ms, and its end"""
     node = node_of_b(trial)
@@ -59,15 +76,45 @@ def log(trial):
     far.close()
     node.logs('ended', peer='b', end='end')
     equal(events(node, 'start', 'listening', 'unshared', 'undefined'),
-          ['connected', 'asked', 'resync-ended', 'resync-ended', 'ended'], 'events')
+          ['connected', 'asked', 'resync-ended', 'up-to-date', 'resync-ended', 'ended'], 'events')
+    equal([(said.level, said.keys) for said in node.logged('up-to-date')], [('info', {'peer': 'b'})], 'the line about being up to date')
     begun, = node.logged('connected')
     matches(r'127\.0\.0\.1:[0-9]+', begun.keys['address'], 'the address')
-    equal((begun.level, begun.keys['role'], begun.keys['protocol']), ('info', 'accept', '2.1'), 'the begin of the session')
+    equal((begun.level, begun.keys['role'], begun.keys['protocol']), ('info', 'accept', '2.1'), 'the beginning of the session')
     learned, taught = node.logged('resync-ended')
     equal([(said.keys['role'], said.keys['end'], said.keys['rows']) for said in (learned, taught)],
           [('learner', 'finished', '2'), ('teacher', 'finished', '2')], 'the resyncs')
     between(190, int(learned.keys['ms']), 2000, 'ms of the resync')
-    equal({said.keys['address'] for said in node.logged(peer='b')}, {begun.keys['address']}, 'addresses')
+    equal({said.keys.get('address') for said in node.logged(peer='b') if said.event != 'up-to-date'}, {begun.keys['address']}, 'addresses')
+
+
+@check
+def log_of_resyncs_of_nothing(trial):
+    """a resync in which there is nothing to teach, and which is over as soon as it begins, has a line too, each time"""
+    node = node_of_b(trial, tables=(T1,))
+    far = connected(trial, node)
+    up_to_date(node)
+    for times in (1, 2, 3):
+        far.send(REQUEST)
+        far.gets(FINISHED, 3, times)
+        said = node.logs('resync-ended', times, role='teacher')
+        equal([(each.keys['end'], each.keys['rows']) for each in said], [('finished', '0')] * times, 'the resyncs')
+
+
+@check
+def log_of_a_new_process(trial):
+    """a session says whether the peer's pid is another one than before, from its second hello on"""
+    node = node_of_b(trial)
+    for times, pid in enumerate((7, 8, 8), 1):
+        peer = trial.closes(kept_open((node.host, node.port)))
+        peer.sendall(b'HAProxyS 2.1\nn\nb %d 1\n' % pid)
+        equal(status_of(peer), b'200\n', 'the status')
+        node.logs('connected', times, peer='b')
+        peer.close()
+        node.logs('ended', times, peer='b')
+    said = node.logged('connected')
+    equal([each.keys.get('process') for each in said], [None, 'new', 'same'], 'what is known of the process')
+    require('started or reloaded' in said[1].sentence, 'what a new one means:', said[1].sentence)
 
 
 @check
@@ -125,6 +172,7 @@ def log_of_a_peer_that_is_not_there(trial):
     node = Node(trial, peers=('b ' + address(port),)).start()
     node.logs('unreachable', peer='b')
     wait(lambda: node.peer('b')['last_error'] == 'unreachable', 2, 'the last error', lambda: node.peer('b'))
+    node.shows('digbaro_peer_last_error{peer="b",error="unreachable"}', 1)
     time.sleep(6)
     first, second = node.logged('connecting') + node.logged('unreachable')
     equal({said.keys['address'] for said in (first, second)}, {address(port)}, 'addresses')
@@ -141,6 +189,7 @@ def log_of_a_status(trial):
     unknown, = node.logs('refused', peer='b', status=504)
     require('add "peer n .." there' in unknown.sentence, 'what repairs it:', unknown.sentence)
     wait(lambda: node.peer('b')['last_error'] == 'refused-504', 2, 'the last error', lambda: node.peer('b'))
+    node.shows('digbaro_peer_last_error{peer="b",error="refused-504"}', 1)
     other, = node.logs('refused', seconds=12, peer='b', status=503)
     require("isn't named b there" in other.sentence, 'what is wrong:', other.sentence)
     node.logs('connected', seconds=6, peer='b', role='connect')
@@ -154,8 +203,52 @@ def log_of_a_peer_that_says_nothing(trial):
     door = Door(trial, status=b'')
     node = Node(trial, peers=('b ' + address(door.port),)).start()
     door.tried(1)
-    ended = node.logs('ended', seconds=13, peer='b')
-    equal([(said.keys['end'], 'before a session began' in said.sentence) for said in ended], [('silent', True)], 'lines about the end')
+    said, = node.logs('unreachable', seconds=13, peer='b')
+    equal((said.level, 'for 10 s no answer came' in said.sentence), ('warn', True), 'the line about the connection')
+    equal(node.peer('b')['last_error'], 'no-answer', 'the last error')
+    equal(node.logged('ended'), [], 'ends of sessions')
+
+
+@check
+def log_of_a_peer_that_is_another_server(trial):
+    """what answers at a peer's address and doesn't speak the protocol is said to be something else, once, with what repairs it; so is one that closes"""
+    answers = ((b'HTTP/1.1 400 Bad Request\r\n\r\n', 'something other than a peers port of HAProxy answers'),
+               (b'\x15\x03\x01\x00\x02\x02\x46', 'something other than a peers port of HAProxy answers'), (b'2', 'closed before b answered'))
+    for answer, words in answers:
+        door = Door(trial, status=answer)
+        node = Node(trial, peers=('b ' + address(door.port),)).start()
+        said, = node.logs('unreachable', peer='b')
+        equal((said.level, words in said.sentence), ('warn', True), 'the line about the connection: ' + said.sentence)
+        wait(lambda node=node: node.peer('b')['last_error'] == 'no-answer', 2, 'the last error', lambda node=node: node.peer('b'))
+        node.shows('digbaro_peer_last_error{peer="b",error="no-answer"}', 1)
+        door.tried(2, 6)
+        time.sleep(0.5)
+        equal((len(node.logged('unreachable')), node.logged('ended')), (1, []), 'lines about the connections')
+
+
+@check
+def log_of_an_end(trial):
+    """a session that is closed or reset ends with a line of level info, one that its peer ends by an error message with a warning; each says why"""
+    node = node_of_b(trial)
+    for times, (does, end, level, words) in enumerate(((lambda far: far.close(), 'end', 'info', 'was closed'),
+                                                       (lambda far: far.reset(), 'device', 'info', 'Connection reset by peer'),
+                                                       (lambda far: far.send(PROTOCOL_ERROR), 'error', 'warn', 'by an error message')), 1):
+        far = connected(trial, node)
+        node.logs('connected', times, peer='b')
+        time.sleep(0.5)
+        does(far)
+        said = node.logs('ended', times, peer='b')[-1]
+        equal((said.keys['end'], said.level, words in said.sentence), (end, level, True), 'the end: ' + said.sentence)
+
+
+@check
+def log_of_a_fault_behind_a_hello(trial):
+    """a session whose peer breaks the protocol right behind its hello begins in the log before the fault"""
+    node = node_of_b(trial)
+    peer = trial.closes(kept_open((node.host, node.port)))
+    peer.sendall(hello('n', 'b') + switch(9))
+    node.logs('ended', peer='b', end='fault')
+    equal(events(node, 'start', 'listening'), ['connected', 'fault', 'ended'], 'events')
 
 
 @check
@@ -175,6 +268,7 @@ def log_of_a_hello_refused(trial):
     for each in said:
         matches(r'127\.0\.0\.1:[0-9]+', each.keys['address'], 'the address')
     other, = node.logged('hello-refused', peer='b')
+    equal(other.keys['called'], 'other', 'the name by which it called this node')
     require('"peer n .."' in other.sentence, 'what repairs it:', other.sentence)
     equal(node.peer('b')['last_error'], 'hello-refused-503', 'the last error')
     node.shows('digbaro_hellos_refused_total{status="504"}', 6)
@@ -184,12 +278,63 @@ def log_of_a_hello_refused(trial):
 
 
 @check
+def log_of_a_hello_of_another_version(trial):
+    """a hello of a version that the node doesn't speak is said with it, once, in hexadecimal if it would read as more"""
+    node = node_of_b(trial)
+    for version, wanted in ((b'2.2', '2.2'), (b'2: x', '0x323A2078')):
+        peer = trial.closes(kept_open((node.host, node.port)))
+        peer.sendall(hello('n', 's' + wanted, b'HAProxyS ' + version))
+        equal(status_of(peer), b'502\n', 'the status')
+        said, = node.logs('hello-refused', status=502, peer='s' + wanted)
+        equal(said.keys['protocol'], wanted, 'the version')
+
+
+@check
+def log_of_a_node_that_is_its_own_peer(trial):
+    """a node that connects to itself, or to another one of its name, says so, and which lines to look at"""
+    port = trial.ports.next()
+    own = Node(trial, peers=('c ' + address(port),), tables=(T1,), port=port).start()
+    said, = own.logs('hello-refused', seconds=5, peer='n')
+    equal((said.keys['status'], said.keys['called']), ('503', 'c'), 'the refusal')
+    require('connected to itself' in said.sentence and '"node n"' in said.sentence, 'what repairs it:', said.sentence)
+    node = node_of_b(trial)
+    equal(refused(node, 'n', 'n'), b'504\n', 'the status')
+    said, = node.logs('hello-refused', status=504, peer='n')
+    require('"node n"' in said.sentence, 'what repairs it:', said.sentence)
+
+
+@check
+def log_of_a_hello_at_another_port(trial):
+    """a peer's hello at the admin port or at the port of metrics is answered there as before, and named once, with the port that it has to have"""
+    metrics = trial.ports.next()
+    node = node_of_b(trial, more=('metrics ' + address(metrics),))
+    for name, port in (('admin', node.admin_port), ('metrics', metrics)):
+        for _ in range(2):
+            peer = trial.closes(kept_open((node.host, port)))
+            peer.sendall(hello('n', 'b'))
+            require(is_closed(peer, 5), 'the connection is closed')
+        said, = node.logs('wrong-port', port=name, peer='b')
+        equal((said.level, '"listen %s"' % address(node.port) in said.sentence), ('warn', True), 'the line: ' + said.sentence)
+        matches(r'127\.0\.0\.1:[0-9]+', said.keys['address'], 'the address')
+    for data in (hello('n', 'x'), hello('n', 'z').split(b'\n')[0] + b'\n'):
+        peer = trial.closes(kept_open((node.host, node.admin_port)))
+        peer.sendall(data)
+        require(is_closed(peer, 5), 'the connection is closed')
+    time.sleep(0.3)
+    equal([said.keys.get('peer', '-') for said in node.logged('wrong-port')], ['b', 'b', 'x', '-'], 'the peers of the lines')
+
+
+@check
 def peer_from_elsewhere(trial):
-    """a hello of a peer that may not come from where it comes is answered 504, and one from where it may is taken"""
-    node = node_of_b(trial, peers=('b from 10.0.0.0/8', 'c from 10.0.0.0/8 127.0.0.0/8'))
-    equal((refused(node, 'n', 'b'), refused(node, 'n', 'c')), (b'504\n', b'200\n'), 'the statuses')
+    """a hello of a peer that may not come from where it comes is answered 504, named once and counted, and one from where it may is taken"""
+    node = node_of_b(trial, peers=('b from 10.0.0.0/8', 'c from 10.0.0.0/8 127.0.0.0/8', 'd'))
+    equal([refused(node, 'n', name) for name in 'bbcd'], [b'504\n', b'504\n', b'200\n', b'200\n'], 'the statuses')
     said, = node.logs('hello-refused', peer='b', status=504)
     require('from' in said.sentence, 'why:', said.sentence)
+    matches(r'127\.0\.0\.1:[0-9]+', said.keys['address'], 'the address')
+    node.shows('digbaro_hellos_refused_total{status="504"}', 2)
+    equal(node.peer('b')['last_error'], 'hello-refused-504', 'the last error')
+    equal(len(node.logged('hello-refused')), 1, 'lines about hellos')
 
 
 # --- How much it says

@@ -3,6 +3,7 @@
 import os
 import shutil
 import subprocess
+import tempfile
 import time
 
 from fuzzing.messages import acknowledgement
@@ -215,8 +216,8 @@ def last_error_of_an_end(trial):
     far.close()
     wait(lambda: door.kept, 6, 'the node connects again')
     door.kept[0].close()
-    node.logs('ended', times=2, peer='b')
-    equal(node.peer('b')['last_error'], '-', 'why there is no session')
+    node.logs('unreachable', peer='b')
+    equal(node.peer('b')['last_error'], 'no-answer', 'why there is no session')
     again = trial.closes(kept_open((node.host, node.port)))
     again.sendall(hello('x', 'b'))
     equal(status_of(again), b'503\n', 'the status for a further one')
@@ -227,7 +228,12 @@ def last_error_of_an_end(trial):
 def process_metrics(trial):
     """the metrics of the process are what the system says of it"""
     begun = time.time()
-    node = Node(trial, peers=(), tables=(T1,)).start()
+    node = Node(trial, peers=(), tables=(T1,))
+    with tempfile.TemporaryDirectory() as folder:
+        # The system says the program's name between parentheses, whatever it has in it.
+        node.program = os.path.join(folder, 'a) R (b')
+        os.symlink(trial.program, node.program)
+        node.start()
     values = node.metrics()
     between(0.5, float(values['process_resident_memory_bytes']) / 2 ** 20 / node.memory(), 2, 'the memory, as a share of what the system says')
     others = [node.admin() for _ in range(3)]

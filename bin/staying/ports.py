@@ -14,10 +14,11 @@ import time
 
 from peering.far import REQUEST, Door, Far, Manners, connected, hello, kept_open, status_of
 from peering.node import T1, Admin, Node, address
+from peering.ports import held
 from peering.trial import PATIENCE, Skipped, between, check, equal, matches, require, wait
-from staying.requests import GOOD, PAGES, alone, answer_to, is_page, is_untouched, with_body
+from staying.requests import GOOD, PAGES, alone, is_page, is_untouched, with_body
 from staying.resyncs import long_rows
-from staying.sessions import node_of_b, up_to_date
+from staying.sessions import up_to_date
 
 
 class Folder:
@@ -96,6 +97,31 @@ def metrics_port(trial):
     is_page(node.sees('GET / HTTP/2.0\r\n\r\n'), 505, 'another version')
     is_page(node.sees('GET /ready HT', 'TP/1.1\r\nHo', 'st: n\r\n', '\r\n'), 200, 'a request in pieces')
     between(0, node.stop(), 5, 'seconds until it has ended')
+
+
+def own_address():
+    """Returns an address of this host that isn't a loopback one, if there is one."""
+    with socket.socket(socket.AF_INET, socket.SOCK_DGRAM) as asks, contextlib.suppress(OSError):
+        asks.connect(('203.0.113.1', 9))
+        found = asks.getsockname()[0]
+        return None if found.startswith('127.') else found
+    return None
+
+
+@check
+def metrics_at_any_address(trial):
+    """the port of metrics may be at any address: at all of the host's, at one that isn't loopback, at one of IPv6"""
+    for host, at in (('0.0.0.0', '127.0.0.1'), (own_address(),) * 2, ('[::]', '::1'), ('[::1]', '::1')):
+        port = trial.ports.next()
+        guard = at and held(port, at)
+        if guard is None:
+            continue
+        guard.close()
+        node = Node(trial, peers=(), tables=(T1,), more=('metrics %s:%d' % (host, port),)).start()
+        visit = trial.closes(Admin(port, at))
+        visit.send('GET /ready HTTP/1.1\r\n\r\n')
+        is_page(visit.rest(), 200, 'the page at ' + host)
+        node.stop()
 
 
 @check
@@ -409,7 +435,7 @@ def comes(trial, node):
 
 @check
 def stop_without_descriptors(trial):
-    """stop ends a node within 5 s while no descriptor is left"""
+    """stop ends a node within 5 s while no descriptor is left, for want of which a peer is unreachable"""
     node = Metered(trial, peers=('b', 'c 127.0.0.1:9'), tables=(T1,))
     node.within = ('prlimit', '--nofile=14')
     node.start()
@@ -418,7 +444,7 @@ def stop_without_descriptors(trial):
     for _ in range(10):
         trial.closes(kept_open((node.host, node.port)))
         trial.closes(node.admin())
-    time.sleep(0.5)
+    wait(lambda: any('Too many open files' in said.sentence for said in node.logged('unreachable', peer='c')), 8, 'why a peer is unreachable', node.said)
     node.admins.send('stop\n')
     begun = time.monotonic()
     equal(node.admins.line(), 'ok', 'the answer to stop')
@@ -487,6 +513,7 @@ def suspended(trial):
     used = busy(node.child.pid)
     node.child.send_signal(signal.SIGCONT)
     equal(waiting.line(5), 'reply 2 - 8 1 local', 'the answer to a track that came meanwhile')
+    between(29_000, max(int(said.keys['ms']) for said in node.logs('held-up')), 40_000, 'ms for which it stood still, as the log says')
     wait(lambda: node.peer('b')['state'] == 'down', 5, 'the dead session is over', lambda: node.ask('show peers'))
     again = connected(trial, node)
     again.gets_row('t1', 8, (1,), 5)

@@ -12,7 +12,7 @@ import time
 from fuzzing.messages import acknowledgement
 from peering.far import CONFIRMED, FINISHED, REQUEST, Manners, connected, hello, kept_open
 from peering.lessons import definition, table, update
-from peering.node import FIRST_MOMENT, T1, Node, reply
+from peering.node import FIRST_MOMENT, T1, Admin, Node, address, reply
 from peering.trial import PATIENCE, Skipped, between, check, equal, matches, require, wait
 from staying.resyncs import long_rows, tracked
 from staying.sessions import node_of_b, up_to_date
@@ -213,7 +213,7 @@ def gets_with_bodies(trial):
             equal(is_page(answer_to(node, data), 200, repr(data)), page, 'the body of the answer to %r' % data)
     data = 'GET /metrics HTTP/1.1\r\nHost: n\r\n' + GOOD
     is_page(answer_to(node, data, GOOD, GOOD + '\r\n' + GOOD, GOOD), 200, 'a head that comes in pieces')
-    equal(answer_to(node, data + 'X: ' + 'x' * 40_000 + '\n' + GOOD), b'refused\n', 'the answer to a line of a head that is too long')
+    is_page(answer_to(node, data + 'X: ' + 'x' * 40_000 + '\n' + GOOD), 431, 'a line of a head that is too long')
     is_untouched(node, 'all of them')
 
 
@@ -443,6 +443,30 @@ def long_lines(trial):
             pass
         equal(admin.rest(), b'refused\n', 'the answer to a line of %d bytes' % len(data))
     equal(node.ask('get t1 7'), 'none', 'the answer on another connection')
+
+
+@check
+def long_http_lines(trial):
+    """an HTTP request is answered 431 if a line of it has more than 32,768 bytes, at the metrics port too; a long line that begins otherwise is refused"""
+    port = trial.ports.next()
+    node = alone(trial, more=('metrics ' + address(port),))
+    long = b'x' * 32769
+    for data, status in ((b'GET /' + long, 431), (b'HEAD /' + long + b' HTTP/1.1\r\n\r\n', 431), (b'GET / HTTP/1.1\r\nX: ' + long + b'\r\n\r\n', 431),
+                         (b'GET /metrics HTTP/1.1\r\nHost: n\r\n' + long, 431), (b'GETS /' + long, None), (long, None)):
+        for at in (node.admin_port, port):
+            client = trial.closes(Admin(at))
+            try:
+                client.send(data)
+            except OSError:
+                pass
+            if status:
+                is_page(client.rest(), status, 'a long line behind %r' % data[:20])
+            else:
+                equal(client.rest(), b'refused\n', 'the answer to a long line behind %r' % data[:20])
+    admin = node.admin()
+    equal(admin.ask('get t1 7'), 'none', 'the answer to a line')
+    admin.send(b'GET /' + long)
+    equal(admin.rest(), b'refused\n', 'the answer to a long line that is not the first')
 
 
 @check
@@ -717,23 +741,6 @@ def million_changes(trial):
 
 
 @check
-def many_clients(trial):
-    """30 clients that change each row of 64 tables take little more memory than the first of them"""
-    numbers, rows = range(1, 65), 200
-    node = alone(trial, tables=['table %d t%d integer 4 0 gpc0' % (number, number) for number in numbers])
-    clients = []
-    for place in range(30):
-        clients.append(node.admin())
-        for number in numbers:
-            clients[-1].send(''.join('track t%d %d add gpc0 1\n' % (number, key) for key in range(rows)))
-            last = [clients[-1].line(30) for _ in range(rows)][-1]
-        if place == 0:
-            before = node.memory()
-    equal(last, 'reply %d - %d 30 local' % (30 * rows, rows - 1), 'the last answer')
-    between(0, max(0, node.memory() - before), 16, 'MiB more than after the first client')
-
-
-@check
 def stops_while_it_learns(trial):
     """stop ends a node also before it is up to date, while a track waits"""
     node = node_of_b(trial)
@@ -747,7 +754,7 @@ def stops_while_it_learns(trial):
 FAMILIES = ['haproxy_' + name for name in 'sticktable_size sticktable_used process_active_peers process_connected_peers'.split()] + [
     'digbaro_' + name for name in 'peer_up peer_last_error sessions_total rows_learned_total rows_taught_total bytes_sent_total bytes_received_total '
     'resyncs_total tables_left passed_over_total faults_total table_events_total table_next_number uptime_seconds up_to_date peer_lag_rows '
-    'peer_lag_seconds rows_displaced_total hellos_refused_total tables_mismatched log_lines_dropped_total build_info'.split()] + [
+    'peer_lag_seconds rows_displaced_total hellos_refused_total tables_mismatched tables_unshared tables_undefined log_lines_dropped_total build_info'.split()] + [
     'process_' + name for name in 'resident_memory_bytes open_fds start_time_seconds cpu_seconds_total'.split()]
 
 

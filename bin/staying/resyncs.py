@@ -1,5 +1,6 @@
 """Resyncs of a node that stays: whom it asks, whom it teaches, and when they end."""
 
+import signal
 import time
 
 from fuzzing.messages import acknowledgement
@@ -235,7 +236,7 @@ def late_answer(trial):
     node = node_of_b(trial)
     far = connected(trial, node, manners=KEEPS_QUIET)
     begun = far.gets(REQUEST, 2)
-    node.logs('unanswered', seconds=7, peer='b')
+    node.logs('unanswered', seconds=7, peer='b', why='mute')
     between(4.9, time.monotonic() - begun, 6.5, 'seconds until it does')
     equal(node.head()['up_to_date'], 'no', 'up to date')
     there = table(9, 't1')
@@ -287,7 +288,7 @@ def rows_of_other_tables(trial):
 
 @check
 def mute_but_acknowledging(trial):
-    """a peer that was asked, and acknowledges what it is taught but teaches nothing, is waited for for 5 s all the same"""
+    """a peer that was asked, and acknowledges what it is taught but teaches nothing, has 5 s all the same"""
     node = node_of_b(trial, peers=('b', 'c'), tables=(T1,))
     equal(node.ask('track t1 0 add gpc0 1'), 'reply 1 - 0 1 local', 'a track')
     far = connected(trial, node, manners=KEEPS_QUIET)
@@ -319,6 +320,25 @@ def asks_again_after_a_minute(trial):
 
 
 @check
+def held_up_while_it_waits(trial):
+    """a node that was held up while it waited for a peer says so, and the peer has its 5 s anew"""
+    node = node_of_b(trial, peers=('b', 'c'))
+    far = connected(trial, node, 'b', KEEPS_QUIET)
+    far.gets(REQUEST, 2)
+    connected(trial, node, 'c', KEEPS_QUIET)
+    node.child.send_signal(signal.SIGSTOP)
+    time.sleep(7)
+    node.child.send_signal(signal.SIGCONT)
+    said = node.logs('held-up')
+    equal({each.level for each in said}, {'warn'}, 'levels')
+    between(6_500, max(int(each.keys['ms']) for each in said), 12_000, 'ms for which it stood still')
+    time.sleep(1)
+    far.send(FINISHED)
+    up_to_date(node)
+    equal(node.logged('unanswered'), [], 'lines of peers that did not answer')
+
+
+@check
 def all_partial(trial):
     """a node of which all peers answer partial is up to date at once, and one of which some are away 5 s after its start"""
     node = node_of_b(trial, peers=('b', 'c'))
@@ -331,6 +351,8 @@ def all_partial(trial):
     for name in 'bc':
         connected(trial, node, name, Manners(answer=PARTIAL)).gets(CONFIRMED, 2)
     wait(node.is_up_to_date, 2, 'the node is up to date', node.said)
+    said, = node.logs('up-to-date')
+    equal(said.keys, {}, 'by whom')
 
 
 @check

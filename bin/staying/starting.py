@@ -33,6 +33,16 @@ def refused(trial, words, text, heads):
 
 
 @check
+def run_with_a_file(trial):
+    """`run` with a word that is no option says that the configuration is read from standard input, and other refused words don't"""
+    hint = b'The configuration is read from standard input: peers_node run < FILE\n'
+    for words, wanted in ((('run', 'node.conf'), True), (('run', '--check', 'node.conf'), True), (('run', '--chek'), False), (('lesson', 'node.conf'), False)):
+        run = subprocess.run([trial.program, *words], stdin=subprocess.DEVNULL, capture_output=True, timeout=PATIENCE, check=False)
+        equal((run.returncode, run.stdout, run.stderr.endswith(b'\n' + hint)), (2, b'', wanted), ' '.join(words))
+        require(run.stderr.startswith(b'error: '), 'what is wrong:', run.stderr)
+
+
+@check
 def refused_configurations(trial):
     """a configuration that breaks a rule is refused, with --check and without"""
     good = NEEDED % trial.ports.next()
@@ -83,6 +93,21 @@ def taken_port(trial):
         port_taken(trial, b'node n\nlisten 127.0.0.1:%d\n' % port, b'listen 127.0.0.1:%d: Address already in use\n' % port)
         port_taken(trial, b'node n\nlisten 127.0.0.1:%d\nadmin 127.0.0.1:%d\n' % (trial.ports.next(), port),
                    b'admin 127.0.0.1:%d: Address already in use\n' % port)
+
+
+@check
+def said_for_the_journal(trial):
+    """with `log journal`, wherever it stands, each line that is said before the log begins has the number of an error for systemd's journal"""
+    with socket.socket() as taken:
+        taken.bind(('127.0.0.1', trial.ports.next()))
+        taken.listen()
+        port = taken.getsockname()[1]
+        port_taken(trial, b'log journal # here\nnode n\nlisten 127.0.0.1:%d\n' % port, b'<3>listen 127.0.0.1:%d: Address already in use\n' % port)
+    run = subprocess.run([trial.program, 'run'], input=b'nod m\nnode m\n\tlog  journal\r\n' + T1.encode(), capture_output=True, timeout=PATIENCE, check=False)
+    lines = run.stderr.splitlines()
+    equal((run.returncode, [line.split(b': ')[0] for line in lines]), (1, [b'<3>line 1', b'<3>configuration']), 'the lines of a refused configuration')
+    run = subprocess.run([trial.program, 'run'], input=b'nod m\n# log journal\nlog journals\n', capture_output=True, timeout=PATIENCE, check=False)
+    require(b'<3>' not in run.stderr, 'no number without such a line:', run.stderr)
 
 
 @check
@@ -147,8 +172,8 @@ def session_without_a_thread(trial):
     for name in 'cb':
         if name == 'b':
             trial.closes(kept_open((node.host, node.port))).sendall(hello('n', 'b'))
-        said, = node.logs('ended', seconds=5, peer=name)
-        equal((said.level, said.keys['end']), ('warn', 'error'), 'the end of a session')
+        said, = node.logs('unreachable', seconds=5, peer=name)
+        equal((said.level, 'lacks memory or a thread' in said.sentence), ('warn', True), 'the line about a session')
 
 
 @check

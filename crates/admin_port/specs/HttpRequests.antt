@@ -1,5 +1,5 @@
 -- What an HTTP request asks for, as its first line says (RFC 9112, section 3; profile).
-use Rattle.std.specs.Prelude.{◌==◌, ◌&&◌, ℕ, Bool, false, List, [], ◌∷◌, None, Option, Some, codes, drop, if◌then◌else◌, is_some, nat_eq, option_and_then, option_map, take}
+use Rattle.std.specs.Prelude.{◌==◌, ◌&&◌, ◌||◌, ℕ, Bool, false, List, [], ◌∷◌, None, Option, Some, codes, drop, if◌then◌else◌, is_some, nat_eq, option_and_then, option_map, take}
 use Rattle.std.specs.List.{starts_with}
 use Rattle.table_types.specs.Rosters.{is_same_name}
 use Rattle.node_text.specs.Numbers.{is_digit}
@@ -61,6 +61,10 @@ http_request_of words = None
 -- the HTTP request whose first line this is
 abbrev pub http_request : List ℕ → Option HttpRequest
 http_request line = http_request_of (line_words line)
+
+-- the line, which may go on, begins as that of a request for a page
+abbrev pub asks_for_page : List ℕ → Bool
+asks_for_page line = starts_with nat_eq line (codes "GET ") || starts_with nat_eq line (codes "HEAD ")
 
 -- the bytes before the first LF (10), if there is one
 abbrev pub first_line : List ℕ → Option (List ℕ)

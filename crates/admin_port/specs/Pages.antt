@@ -66,6 +66,10 @@ missing_page = codes "HTTP/1.1 404 Not Found\r\nContent-Length: 0\r\nConnection:
 unfoldable pub method_not_allowed : List ℕ
 method_not_allowed = codes "HTTP/1.1 405 Method Not Allowed\r\nAllow: GET, HEAD\r\nContent-Length: 0\r\nConnection: close\r\n\r\n"
 
+-- a line of the request is too long
+unfoldable pub fields_too_large : List ℕ
+fields_too_large = codes "HTTP/1.1 431 Request Header Fields Too Large\r\nContent-Length: 0\r\nConnection: close\r\n\r\n"
+
 -- there are too many clients
 unfoldable pub too_many_clients : List ℕ
 too_many_clients = codes "HTTP/1.1 503 Service Unavailable\r\nRetry-After: 1\r\nContent-Length: 0\r\nConnection: close\r\n\r\n"

@@ -7,6 +7,8 @@ use Rattle.admin_port.specs.Samples.{family_head, sample_line}
 use Rattle.node_core.specs.declared.session_ends.SessionEnd.{SessionEnd}
 use Rattle.node_core.specs.declared.session_ends.SessionEnd.TheVariants as ends
 use Rattle.admin_port.specs.declared.peer_metrics.PeerMetrics.{PeerMetrics}
+use Rattle.admin_port.specs.declared.peer_metrics.TablesFamily.{TablesFamily}
+use Rattle.admin_port.specs.declared.peer_metrics.TablesFamily.TheVariants as families
 use Rattle.admin_port.specs.declared.peer_metrics.ResyncsEnded.{ResyncsEnded}
 
 -- ---- up
@@ -53,7 +55,7 @@ sessions_of p =
 
 unfoldable pub sessions_family : List PeerMetrics → List ℕ
 sessions_family ps =
-    family_head (codes "digbaro_sessions_total") (codes "counter") (codes "Sessions with this peer that ended so.")
+    family_head (codes "digbaro_sessions_total") (codes "counter") (codes "Sessions with this peer that began, and ended so.")
     ++ flat_map sessions_of ps
 
 -- ---- resyncs
@@ -76,15 +78,31 @@ resyncs_family ps =
     family_head (codes "digbaro_resyncs_total") (codes "counter") (codes "Resyncs with this peer that ended so, by the role of this node.")
     ++ flat_map resyncs_of ps
 
--- ---- tables that a peer defines otherwise
+-- ---- tables that aren't shared with a peer
 
-unfoldable pub mismatched_sample : PeerMetrics → List ℕ
-mismatched_sample p = sample_line (codes "digbaro_tables_mismatched") ((codes "peer", p.name.now) ∷ []) p.mismatched
+abbrev pub tables_name : TablesFamily → List ℕ
+tables_name families.Mismatched = codes "digbaro_tables_mismatched"
+tables_name families.Unshared = codes "digbaro_tables_unshared"
+tables_name families.Undefined = codes "digbaro_tables_undefined"
 
-unfoldable pub mismatched_family : List PeerMetrics → List ℕ
-mismatched_family ps =
-    family_head (codes "digbaro_tables_mismatched") (codes "gauge") (codes "Tables that this peer defines otherwise than this node.")
-    ++ flat_map mismatched_sample ps
+abbrev pub tables_help : TablesFamily → List ℕ
+tables_help families.Mismatched = codes "Tables that this peer defines otherwise than this node."
+tables_help families.Unshared = codes "Tables that this peer has defined and this node lacks."
+tables_help families.Undefined = codes "Tables of this node that this peer hasn't defined, though it has taught all it has."
+
+abbrev pub tables_value : TablesFamily → PeerMetrics → ℕ
+tables_value families.Mismatched p = p.mismatched
+tables_value families.Unshared p = p.unshared
+tables_value families.Undefined p = p.undefined
+
+unfoldable pub tables_sample : TablesFamily → PeerMetrics → List ℕ
+tables_sample family p = sample_line (tables_name family) ((codes "peer", p.name.now) ∷ []) (tables_value family p)
+
+unfoldable pub tables_family : TablesFamily → List PeerMetrics → List ℕ
+tables_family family ps = family_head (tables_name family) (codes "gauge") (tables_help family) ++ flat_map (tables_sample family) ps
+
+unfoldable pub tables_families : List PeerMetrics → List ℕ
+tables_families ps = tables_family families.Mismatched ps ++ (tables_family families.Unshared ps ++ tables_family families.Undefined ps)
 
 abbrev pub peer_families : List PeerMetrics → List ℕ
-peer_families ps = peers_up ps ++ (last_errors ps ++ (sessions_family ps ++ (resyncs_family ps ++ mismatched_family ps)))
+peer_families ps = peers_up ps ++ (last_errors ps ++ (sessions_family ps ++ (resyncs_family ps ++ tables_families ps)))

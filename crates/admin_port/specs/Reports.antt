@@ -50,6 +50,8 @@ version_text (Some version) = version_name version
 abbrev pub last_error_text : Option LastError → List ℕ
 last_error_text None = codes "-"
 last_error_text (Some errors.Unreachable) = codes "unreachable"
+last_error_text (Some errors.NoAnswer) = codes "no-answer"
+last_error_text (Some errors.Lacking) = codes "no-memory"
 last_error_text (Some (errors.Refused status)) = codes "refused-" ++ decimal status
 last_error_text (Some (errors.HelloRefused status)) = codes "hello-refused-" ++ decimal status
 
@@ -83,11 +85,16 @@ unfoldable pub end_and_version_text : PeerReport → List ℕ
 end_and_version_text p =
     codes " last_end=" ++ (end_text p.last_end ++ (codes " version=" ++ version_text p.version))
 
--- why there is no session with a peer, how many rows it lacks, and how many tables it defines otherwise
+-- how many tables a peer defines otherwise, how many of its tables the node lacks, and how many of the node's it hasn't defined
+unfoldable pub unlike_text : PeerReport → List ℕ
+unlike_text p =
+    codes " mismatched=" ++ (decimal p.mismatched ++ (codes " unshared=" ++ (decimal p.unshared
+    ++ (codes " undefined=" ++ decimal p.undefined))))
+
+-- why there is no session with a peer, how many rows it lacks, and how many tables aren't shared
 unfoldable pub troubles_text : PeerReport → List ℕ
 troubles_text p =
-    codes " last_error=" ++ (last_error_text p.last_error ++ (codes " lag=" ++ (decimal p.lag
-    ++ (codes " mismatched=" ++ decimal p.mismatched))))
+    codes " last_error=" ++ (last_error_text p.last_error ++ (codes " lag=" ++ (decimal p.lag ++ unlike_text p)))
 
 -- what stands behind the numbers of a peer
 unfoldable pub present_text : PeerReport → List ℕ

@@ -1,6 +1,6 @@
 //! HTTP requests, of which only the first line says what they ask for.
 ghost use Rattle.std.specs.Prelude.{◌≡◌, ◌∷◌, []};
-ghost use Rattle.admin_port.specs.HttpRequests.{asked, begins_http, http_request, http_request_of, in_version, is_http_1, is_minor, page_at, path_of};
+ghost use Rattle.admin_port.specs.HttpRequests.{asked, asks_for_page, begins_http, http_request, http_request_of, in_version, is_http_1, is_minor, page_at, path_of};
 
 use node_text::cut;
 use table_types::is_same_name;
@@ -56,6 +56,13 @@ pub(crate) fn begins_http(bytes: &[u8]) -> bool
         Some((line, _)) => read_http_request(line).is_some(),
         None => false,
     }
+}
+
+/// Returns whether `line`, which may go on, begins as that of an HTTP request for a page does.
+pub fn asks_for_page(line: &[u8]) -> bool
+    ensures { result ≡ asks_for_page line.now }
+{
+    line.starts_with(b"GET ") || line.starts_with(b"HEAD ")
 }
 
 /// Returns what the HTTP request asks for that has these three words, or `None` if they are none.

@@ -13,8 +13,6 @@ mod metric_families;
 mod metrics_pages;
 mod pages;
 mod peer_metrics;
-#[cfg(test)]
-mod process_files;
 mod process_metrics;
 mod process_texts;
 mod reports;
@@ -32,7 +30,7 @@ pub use answers::{
     Answer, push_answer, push_found, push_refused, push_rows, push_too_many, push_tracked,
 };
 pub use definition_words::push_side;
-pub use http_requests::{HttpRequest, Page, read_http_request};
+pub use http_requests::{HttpRequest, Page, asks_for_page, read_http_request};
 pub use idle::{is_idle_too_long, longest_idle, makes_room};
 pub use lag_metrics::TableLag;
 pub use laws::{lone_event, one_request, rates_at_borders};
@@ -40,8 +38,9 @@ pub use metrics_pages::{
     FaultCount, Metrics, NodeMetrics, PassedOver, RefusedHellos, metrics_page,
 };
 pub use pages::{
-    Extent, Health, push_health, push_method_not_allowed, push_metrics, push_missing_page,
-    push_overview, push_ready, push_too_many_clients, push_version_not_supported,
+    Extent, Health, push_fields_too_large, push_health, push_method_not_allowed, push_metrics,
+    push_missing_page, push_overview, push_ready, push_too_many_clients,
+    push_version_not_supported,
 };
 pub use peer_metrics::{PeerMetrics, ResyncsEnded, SessionsEnded};
 pub use process_metrics::{BuildInfo, ProcessMetrics};

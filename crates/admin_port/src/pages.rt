@@ -1,6 +1,6 @@
 //! The pages with which the admin port answers HTTP requests.
 ghost use Rattle.std.specs.Prelude.{◌≡◌, ◌++◌, OnOk, codes};
-ghost use Rattle.admin_port.specs.Pages.{answer, answer_head, extent_of, health_answer, is_cut_off, is_healthy, method_not_allowed, metrics_answer, missing_page, overview_answer, ready_answer, reasons, too_many_clients, version_not_supported};
+ghost use Rattle.admin_port.specs.Pages.{answer, answer_head, extent_of, health_answer, is_cut_off, is_healthy, method_not_allowed, metrics_answer, fields_too_large, missing_page, overview_answer, ready_answer, reasons, too_many_clients, version_not_supported};
 
 use crate::lines::{push_field, push_words};
 use node_text::push_word_and_number;
@@ -152,6 +152,17 @@ pub fn push_method_not_allowed(text: &mut Vec<u8>) -> Result<(), AllocError>
     push_words(
         text,
         "HTTP/1.1 405 Method Not Allowed\r\nAllow: GET, HEAD\r\nContent-Length: 0\r\nConnection: close\r\n\r\n",
+    )
+}
+
+/// Appends the answer to a request that has a line that is too long.
+#[tactic(auto, unfolding(crate::specs::Pages::fields_too_large))]
+pub fn push_fields_too_large(text: &mut Vec<u8>) -> Result<(), AllocError>
+    ensures { OnOk result (text.new.items ≡ text.old.items ++ fields_too_large) }
+{
+    push_words(
+        text,
+        "HTTP/1.1 431 Request Header Fields Too Large\r\nContent-Length: 0\r\nConnection: close\r\n\r\n",
     )
 }
 

@@ -1,6 +1,6 @@
 //! The families of metrics that have samples for each peer.
 ghost use Rattle.std.specs.Prelude.{◌≡◌, ◌++◌, OnOk};
-ghost use Rattle.admin_port.specs.PeerMetrics.{as_number, end_sample, last_error_sample, last_errors, mismatched_family, mismatched_sample, peer_families, peers_up, resync_sample, resyncs_family, resyncs_of, role_samples, sessions_family, sessions_of, up_sample};
+ghost use Rattle.admin_port.specs.PeerMetrics.{as_number, end_sample, last_error_sample, last_errors, peer_families, peers_up, resync_sample, resyncs_family, resyncs_of, role_samples, sessions_family, sessions_of, tables_families, tables_family, tables_help, tables_name, tables_sample, tables_value, up_sample};
 
 use crate::lag_metrics::TableLag;
 use crate::reports::push_last_error;
@@ -26,6 +26,10 @@ pub struct PeerMetrics<'a> {
     pub learned: ResyncsEnded,
     /// The number of tables that the peer defines otherwise.
     pub mismatched: u64,
+    /// The number of tables that the peer has defined and the node lacks.
+    pub unshared: u64,
+    /// The number of the node's tables that the peer hasn't defined, though it has taught all it has.
+    pub undefined: u64,
     /// What the peer lacks of each table.
     pub lags: Vec<TableLag<'a>>,
 }
@@ -58,6 +62,53 @@ pub struct ResyncsEnded {
     pub broken: u64,
 }
 
+/// A family of tables that aren't shared with a peer.
+#[derive(Clone, Copy)]
+enum TablesFamily {
+    /// Those that the peer defines otherwise.
+    Mismatched,
+    /// Those that the peer has defined and the node lacks.
+    Unshared,
+    /// The node's that the peer hasn't defined.
+    Undefined,
+}
+
+impl TablesFamily {
+    /// Returns the name of the family.
+    fn name(self) -> &'static str
+        ensures { result.now ≡ tables_name self }
+    {
+        match self {
+            TablesFamily::Mismatched => "digbaro_tables_mismatched",
+            TablesFamily::Unshared => "digbaro_tables_unshared",
+            TablesFamily::Undefined => "digbaro_tables_undefined",
+        }
+    }
+
+    /// Returns what the family counts.
+    fn help(self) -> &'static str
+        ensures { result.now ≡ tables_help self }
+    {
+        match self {
+            TablesFamily::Mismatched => "Tables that this peer defines otherwise than this node.",
+            TablesFamily::Unshared => "Tables that this peer has defined and this node lacks.",
+            TablesFamily::Undefined =>
+                "Tables of this node that this peer hasn't defined, though it has taught all it has.",
+        }
+    }
+
+    /// Returns how many such tables a peer has.
+    fn value(self, peer: &PeerMetrics<'_>) -> u64
+        ensures { result ≡ tables_value self peer.now }
+    {
+        match self {
+            TablesFamily::Mismatched => peer.mismatched,
+            TablesFamily::Unshared => peer.unshared,
+            TablesFamily::Undefined => peer.undefined,
+        }
+    }
+}
+
 /// Appends the families that have samples for each peer.
 pub(crate) fn push_peer_families(
     text: &mut Vec<u8>,
@@ -69,7 +120,7 @@ pub(crate) fn push_peer_families(
     push_last_errors(text, peers)?;
     push_sessions(text, peers)?;
     push_resyncs(text, peers)?;
-    push_mismatched(text, peers)
+    push_tables_families(text, peers)
 }
 
 /// Appends whether each peer is up.
@@ -115,7 +166,7 @@ fn push_sessions(text: &mut Vec<u8>, peers: &[PeerMetrics<'_>]) -> Result<(), Al
         text,
         "digbaro_sessions_total",
         "counter",
-        "Sessions with this peer that ended so.",
+        "Sessions with this peer that began, and ended so.",
     )?;
     for peer in peers {
         push_peer_sessions(text, peer)?;
@@ -256,36 +307,44 @@ fn push_peer_last_error(text: &mut Vec<u8>, peer: &PeerMetrics<'_>) -> Result<()
     push_sample(text, "digbaro_peer_last_error", labels.as_slice(), 1)
 }
 
-/// Appends how many tables each peer defines otherwise.
-#[tactic(auto, unfolding(crate::specs::PeerMetrics::mismatched_family))]
-fn push_mismatched(text: &mut Vec<u8>, peers: &[PeerMetrics<'_>]) -> Result<(), AllocError>
-    ensures { OnOk result (text.new.items ≡ text.old.items ++ mismatched_family peers.now) }
+/// Appends how many tables aren't shared with each peer, and why.
+#[tactic(auto, unfolding(crate::specs::PeerMetrics::tables_families))]
+fn push_tables_families(text: &mut Vec<u8>, peers: &[PeerMetrics<'_>]) -> Result<(), AllocError>
+    ensures { OnOk result (text.new.items ≡ text.old.items ++ tables_families peers.now) }
 {
-    push_head(
-        text,
-        "digbaro_tables_mismatched",
-        "gauge",
-        "Tables that this peer defines otherwise than this node.",
-    )?;
+    push_tables_family(text, peers, TablesFamily::Mismatched)?;
+    push_tables_family(text, peers, TablesFamily::Unshared)?;
+    push_tables_family(text, peers, TablesFamily::Undefined)
+}
+
+/// Appends a family of tables that aren't shared with each peer.
+#[tactic(auto, unfolding(crate::specs::PeerMetrics::tables_family))]
+fn push_tables_family(
+    text: &mut Vec<u8>,
+    peers: &[PeerMetrics<'_>],
+    family: TablesFamily,
+) -> Result<(), AllocError>
+    ensures { OnOk result (text.new.items ≡ text.old.items ++ tables_family family peers.now) }
+{
+    push_head(text, family.name(), "gauge", family.help())?;
     for peer in peers {
-        push_peer_mismatched(text, peer)?;
+        push_tables(text, peer, family)?;
     }
     Ok(())
 }
 
-/// Appends how many tables a peer defines otherwise.
-#[tactic(auto, unfolding(crate::specs::PeerMetrics::mismatched_sample))]
-fn push_peer_mismatched(text: &mut Vec<u8>, peer: &PeerMetrics<'_>) -> Result<(), AllocError>
-    ensures { OnOk result (text.new.items ≡ text.old.items ++ mismatched_sample peer.now) }
+/// Appends how many tables aren't shared with a peer, by one family.
+#[tactic(auto, unfolding(crate::specs::PeerMetrics::tables_sample))]
+fn push_tables(
+    text: &mut Vec<u8>,
+    peer: &PeerMetrics<'_>,
+    family: TablesFamily,
+) -> Result<(), AllocError>
+    ensures { OnOk result (text.new.items ≡ text.old.items ++ tables_sample family peer.now) }
 {
     let labels = [Label {
         name: "peer",
         value: peer.name.as_slice(),
     }];
-    push_sample(
-        text,
-        "digbaro_tables_mismatched",
-        labels.as_slice(),
-        peer.mismatched,
-    )
+    push_sample(text, family.name(), labels.as_slice(), family.value(peer))
 }

@@ -1,7 +1,7 @@
 //! What a node reports of itself and its peers.
 ghost use Rattle.std.specs.Prelude.{◌≡◌, ◌++◌, OnOk, flat_map};
 ghost use Rattle.node_text.specs.Numbers.{number_or_dash};
-ghost use Rattle.admin_port.specs.Reports.{counts_text, difference_name, difference_text, end_and_version_text, end_text, last_error_text, left_and_mismatch_text, node_line, numbers_text, peer_line, peer_lines, present_text, role_text, state_name, table_line, troubles_text, version_text, yes_or_no};
+ghost use Rattle.admin_port.specs.Reports.{counts_text, difference_name, difference_text, end_and_version_text, end_text, last_error_text, left_and_mismatch_text, node_line, numbers_text, peer_line, peer_lines, present_text, role_text, state_name, table_line, troubles_text, unlike_text, version_text, yes_or_no};
 
 use crate::lines::{push_field, push_line_end, push_words};
 use crate::table_names::push_table_name;
@@ -61,6 +61,10 @@ pub struct PeerReport<'a> {
     pub lag: u64,
     /// The number of tables that the peer defines otherwise.
     pub mismatched: u64,
+    /// The number of tables that the peer has defined and the node lacks.
+    pub unshared: u64,
+    /// The number of the node's tables that the peer hasn't defined, though it has taught all it has.
+    pub undefined: u64,
     /// What the session reports of each table, if there is a session.
     pub tables: Vec<PeerTableReport<'a>>,
 }
@@ -172,7 +176,7 @@ fn push_end_and_version(text: &mut Vec<u8>, peer: &PeerReport<'_>) -> Result<(),
     push_field(text, " version=", version_text(peer.version).as_bytes())
 }
 
-/// Appends why there is no session with a peer, and what it lacks or defines otherwise.
+/// Appends why there is no session with a peer, what it lacks, and which tables aren't shared.
 #[tactic(auto, unfolding(crate::specs::Reports::troubles_text))]
 fn push_troubles(text: &mut Vec<u8>, peer: &PeerReport<'_>) -> Result<(), AllocError>
     ensures { OnOk result (text.new.items ≡ text.old.items ++ troubles_text peer.now) }
@@ -180,7 +184,18 @@ fn push_troubles(text: &mut Vec<u8>, peer: &PeerReport<'_>) -> Result<(), AllocE
     push_words(text, " last_error=")?;
     push_last_error(text, peer.last_error)?;
     push_word_and_number(text, " lag=", peer.lag)?;
-    push_word_and_number(text, " mismatched=", peer.mismatched)
+    push_unlike(text, peer)
+}
+
+/// Appends how many tables a peer defines otherwise, how many the node lacks, and how many of the node's the peer hasn't defined.
+#[tactic(auto, unfolding(crate::specs::Reports::unlike_text))]
+fn push_unlike(text: &mut Vec<u8>, peer: &PeerReport<'_>) -> Result<(), AllocError>
+    ensures { OnOk result (text.new.items ≡ text.old.items ++ unlike_text peer.now) }
+{
+    push_word_and_number(text, " mismatched=", peer.mismatched)?;
+    push_word_and_number(text, " unshared=", peer.unshared)?;
+    push_word_and_number(text, " undefined=", peer.undefined)?;
+    Ok(())
 }
 
 /// Appends the word for why there is no session, or `-` if no attempt showed it.
@@ -192,6 +207,8 @@ pub(crate) fn push_last_error(
 {
     match error {
         Some(LastError::Unreachable) => push_words(text, "unreachable"),
+        Some(LastError::NoAnswer) => push_words(text, "no-answer"),
+        Some(LastError::Lacking) => push_words(text, "no-memory"),
         Some(LastError::Refused(status)) => {
             push_word_and_number(text, "refused-", u64::from(status))
         }

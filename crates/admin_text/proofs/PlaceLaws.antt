@@ -1,15 +1,16 @@
 -- The addresses and the warnings of more and more lines.
-use Rattle.std.proofs.Common.{◌≡◌, ◌∙◌, ◌+◌, ◌<◌, ◌++◌, ℕ, List, [], ◌∷◌, add-one, ap, append_assoc, get_or, length, map, refl, subst, sym, take}
+use Rattle.std.proofs.Common.{◌≡◌, ◌∙◌, ◌+◌, ◌<◌, ◌++◌, ℕ, Bool, List, [], ◌∷◌, add-one, ap, append_assoc, get_or, length, map, refl, subst, sym, take}
 use Rattle.std.specs.Prelude.{Err, Ok, OnOk, Option, Result, option_to_list}
 use Rattle.std.proofs.Math.Seq.{take-suc}
 use Rattle.std.proofs.lemmas.List.{append-nil, map-append}
 use Rattle.admin_text.specs.Places.{ArePlaces, IsPlaceOf}
 use Rattle.admin_text.specs.Refusals.{Adds, AreLines}
 use Rattle.admin_text.specs.Statements.{Said, said_by}
-use Rattle.admin_text.specs.Warnings.{AreWarnings, line_warnings, warned, warned_head}
+use Rattle.admin_text.specs.Warnings.{AreWarnings, IsOutside, line_warnings, warned, warned_head}
 use Rattle.admin_text.specs.declared.places.Place.{Place}
 use Rattle.admin_text.specs.declared.statements.Statement.{Statement}
 use Rattle.admin_text.specs.declared.warnings.WarnedLine.{WarnedLine}
+use Rattle.admin_text.specs.declared.warnings.Warning.{Warning}
 use Rattle.admin_text.proofs.RefusalLaws.{next_lines}
 
 -- ---- one more line
@@ -26,18 +27,21 @@ places_on (first ∷ lines) line place found (one, more, has, split, rest) is = 
   places_on lines line place more rest is,
 )
 
-warnings_on : (all : List Place) (lines : List Said) (line : Said) (place : Option Place) (found : List WarnedLine) → AreWarnings all lines found
-    → IsPlaceOf line place → AreWarnings all (lines ++ line ∷ []) (found ++ warned line.0 (line_warnings all place line.1))
-warnings_on all [] line place found none is =
-    let last = warned line.0 (line_warnings all place line.1) in
-    (place, [], is, ap (λ some. some ++ last) none ∙ sym (append-nil last), refl)
-warnings_on all (first ∷ lines) line place found (one, more, has, split, rest) is =
-    let last = warned line.0 (line_warnings all place line.1) in (
+warnings_on : (all : List Place) (slashed : Bool) (lines : List Said) (line : Said) (place : Option Place) (outside : Option Warning)
+    (found : List WarnedLine) → AreWarnings all slashed lines found → IsPlaceOf line place → IsOutside place line.1 outside
+    → AreWarnings all slashed (lines ++ line ∷ []) (found ++ warned line.0 (line_warnings all slashed place outside line.1))
+warnings_on all slashed [] line place outside found none is away =
+    let last = warned line.0 (line_warnings all slashed place outside line.1) in
+    (place, outside, [], is, away, ap (λ some. some ++ last) none ∙ sym (append-nil last), refl)
+warnings_on all slashed (first ∷ lines) line place outside found (one, out, more, has, lies, split, rest) is away =
+    let last = warned line.0 (line_warnings all slashed place outside line.1) in (
       one,
+      out,
       more ++ last,
       has,
-      ap (λ some. some ++ last) split ∙ append_assoc (warned first.0 (line_warnings all one first.1)) more last,
-      warnings_on all lines line place more rest is,
+      lies,
+      ap (λ some. some ++ last) split ∙ append_assoc (warned first.0 (line_warnings all slashed one out first.1)) more last,
+      warnings_on all slashed lines line place outside more rest is away,
     )
 
 -- ---- as the code has the lines
@@ -55,14 +59,16 @@ next_places lines i s place found all less is so_far has pushed =
     subst (λ some. ArePlaces some all) (sym (taken_more lines i s less is))
     (subst (ArePlaces (map said_by (take i lines) ++ said_by s ∷ [])) (sym pushed) (places_on (map said_by (take i lines)) (said_by s) place found so_far has))
 
-pub next_warnings : (places : List Place) (lines : List Statement) (i : ℕ) (s : Statement) (place : Option Place) (found all : List WarnedLine)
-    → i < length lines → s ≡ get_or lines i s → AreWarnings places (map said_by (take i lines)) found → IsPlaceOf (said_by s) place
-    → all ≡ found ++ warned s.number (line_warnings places place (map (λ word. word.now) s.words.items))
-    → AreWarnings places (map said_by (take (i + 1) lines)) all
-next_warnings places lines i s place found all less is so_far has pushed =
-    subst (λ some. AreWarnings places some all) (sym (taken_more lines i s less is))
-    (subst (AreWarnings places (map said_by (take i lines) ++ said_by s ∷ [])) (sym pushed)
-    (warnings_on places (map said_by (take i lines)) (said_by s) place found so_far has))
+pub next_warnings : (places : List Place) (slashed : Bool) (lines : List Statement) (i : ℕ) (s : Statement) (place : Option Place)
+    (outside : Option Warning) (found all : List WarnedLine) → i < length lines → s ≡ get_or lines i s
+    → AreWarnings places slashed (map said_by (take i lines)) found → IsPlaceOf (said_by s) place
+    → IsOutside place (map (λ word. word.now) s.words.items) outside
+    → all ≡ found ++ warned s.number (line_warnings places slashed place outside (map (λ word. word.now) s.words.items))
+    → AreWarnings places slashed (map said_by (take (i + 1) lines)) all
+next_warnings places slashed lines i s place outside found all less is so_far has away pushed =
+    subst (λ some. AreWarnings places slashed some all) (sym (taken_more lines i s less is))
+    (subst (AreWarnings places slashed (map said_by (take i lines) ++ said_by s ∷ [])) (sym pushed)
+    (warnings_on places slashed (map said_by (take i lines)) (said_by s) place outside found so_far has away))
 
 -- ---- the lines that say them
 

@@ -1,20 +1,27 @@
 -- What is legal in a configuration, and surely meant otherwise (profile). HAProxy's times end at 2^31 - 1 ms; the length of its strings is
--- `len` and one more; the name of a table of a peers section goes over the wire as `/` and its name, and the name of a proxy has no `/`.
-use Rattle.std.specs.Prelude.{◌≡◌, ◌==◌, ◌&&◌, ◌||◌, ◌+◌, ◌*◌, ◌-◌, ◌/◌, ◌%◌, ◌^◌, ◌++◌, ℕ, Bool, true, false, not, List, [], ◌∷◌, Option, Some, None, codes, drop, if◌then◌else◌, is_none, map, nat_lt, option_map, option_to_list, slice_get}
+-- `len` and one more; the name of a table of a peers section goes over the wire as `/` and its name, and the name of a proxy has no `/`;
+-- a `stick` rule adds both server_id and server_key to its table.
+use Rattle.std.specs.Prelude.{◌≡◌, ◌==◌, ◌&&◌, ◌||◌, ◌+◌, ◌*◌, ◌-◌, ◌/◌, ◌%◌, ◌^◌, ◌++◌, ℕ, Bool, true, false, not, List, [], ◌∷◌, Option, Some, None, Result, Ok, Err, bytes_eq, codes, drop, if◌then◌else◌, is_none, map, nat_lt, option_map, option_to_list, slice_get}
 use Rattle.std.specs.Fmt.{decimal}
 use Rattle.std.specs.List.{list_any}
 use Rattle.std.specs.Net.Socket.{socket_ip, socket_port}
 use Rattle.std.specs.Option.{option_or}
+use Rattle.std.specs.declared.net.ip_addr.IpAddr.{IpAddr}
 use Rattle.std.specs.declared.net.socket_addr.SocketAddr.{SocketAddr}
+use Rattle.table_types.specs.declared.data_type.DataType.{DataType}
+use Rattle.table_types.specs.declared.data_type.DataType.TheVariants as types
 use Rattle.node_text.specs.Numbers.{number_of}
 use Rattle.admin_text.specs.Before.{line_of}
 use Rattle.admin_text.specs.LineKinds.{is_of_kind, is_word}
-use Rattle.admin_text.specs.Networks.{address_bits}
+use Rattle.admin_text.specs.Networks.{address_bits, may_come}
+use Rattle.admin_text.specs.PeerLines.{AreNetworks, networks_part, source_part}
 use Rattle.admin_text.specs.Places.{ArePlaces, IsPlaceOf}
 use Rattle.admin_text.specs.Refusals.{AreLines}
 use Rattle.admin_text.specs.Statements.{Said}
 use Rattle.admin_text.specs.TableLines.{period_part}
+use Rattle.admin_text.specs.declared.faults.Fault.{Fault}
 use Rattle.admin_text.specs.declared.line_kinds.LineKind.TheVariants as kinds
+use Rattle.admin_text.specs.declared.networks.Network.{Network}
 use Rattle.admin_text.specs.declared.places.Place.{Place}
 use Rattle.admin_text.specs.declared.places.Place.TheVariants as places
 use Rattle.admin_text.specs.declared.warnings.WarnedLine.{WarnedLine}
@@ -98,6 +105,53 @@ place_warning all (Some (places.Metrics number a)) = option_or (overlap_warning 
 place_warning all (Some (places.Peer number a)) =
     option_or (own_warning a (listen_in all)) (option_map warnings.Shared (peer_at number a all))
 
+-- ---- networks
+
+-- a peer with these networks may not come from this address, which is its own
+abbrev pub outside_warning : List Network → IpAddr → Option Warning
+outside_warning networks a = if may_come networks (Some a) then None else Some warnings.Outside
+
+-- the same, if all words for networks write some
+abbrev pub outside_of : Result (List Network) Fault → IpAddr → Option Warning
+outside_of (Ok networks) a = outside_warning networks a
+outside_of (Err fault) a = None
+
+-- the same, of the networks that these words write
+abbrev pub IsOutsideAll : List (List ℕ) → IpAddr → Option Warning → Type 0
+IsOutsideAll words a warning = (networks : Result (List Network) Fault) × AreNetworks 4 words networks × (warning ≡ outside_of networks a)
+
+-- the same, if there are words that have to be networks
+abbrev pub IsOutsideIf : Option (List (List ℕ)) → IpAddr → Option Warning → Type 0
+IsOutsideIf None a warning = warning ≡ None
+IsOutsideIf (Some words) a warning = IsOutsideAll words a warning
+
+-- the same, if the line with these words gives a peer this address
+abbrev pub IsOutside : Option Place → List (List ℕ) → Option Warning → Type 0
+IsOutside None words warning = warning ≡ None
+IsOutside (Some (places.Listen number a)) words warning = warning ≡ None
+IsOutside (Some (places.Admin number a)) words warning = warning ≡ None
+IsOutside (Some (places.Metrics number a)) words warning = warning ≡ None
+IsOutside (Some (places.Peer number a)) words warning = IsOutsideIf (networks_part (source_part (drop 2 words))) (socket_ip a) warning
+
+-- ---- the section
+
+-- `/` (47) comes first
+abbrev pub begins_slash : Option (List ℕ) → Bool
+begins_slash None = false
+begins_slash (Some []) = false
+begins_slash (Some (byte ∷ name)) = byte == 47
+
+-- the line gives a table of a peers section
+abbrev pub gives_section_table : List (List ℕ) → Bool
+gives_section_table words = is_of_kind kinds.Table words && begins_slash (slice_get words 2)
+
+abbrev pub has_section_table : List Said → Bool
+has_section_table lines = list_any (λ line. gives_section_table line.1) lines
+
+-- the section's name stands before the name of no table
+abbrev pub section_warning : Bool → List (List ℕ) → Option Warning
+section_warning some words = if is_of_kind kinds.Section words && not some then Some warnings.Unused else None
+
 -- ---- tables
 
 -- a multiple of 4 or of 10, as HAProxy's `len` mostly is
@@ -143,26 +197,51 @@ long_period place (word ∷ words) = if is_long (period_part word) then Some pla
 abbrev pub period_warning : List (List ℕ) → Option Warning
 period_warning words = if is_of_kind kinds.Table words then option_map warnings.Period (long_period 6 (drop 6 words)) else None
 
+-- one of the words is this one
+abbrev pub has_type : List ℕ → List (List ℕ) → Bool
+has_type word words = list_any (λ other. bytes_eq other word) words
+
+-- what lacks, of server_id and server_key, where the other one is
+abbrev pub lacking_type : Bool → Bool → Option DataType
+lacking_type false false = None
+lacking_type false true = Some types.ServerId
+lacking_type true false = Some types.ServerKey
+lacking_type true true = None
+
+abbrev pub server_warning : List (List ℕ) → Option Warning
+server_warning words =
+    if is_of_kind kinds.Table words
+    then option_map warnings.Lacks (lacking_type (has_type (codes "server_id") (drop 6 words)) (has_type (codes "server_key") (drop 6 words)))
+    else None
+
 -- ---- all lines
 
--- what is warned of in a line with these words, which gives this address
-abbrev pub line_warnings : List Place → Option Place → List (List ℕ) → List Warning
-line_warnings all place words =
+-- what is warned of in a line of a table with these words
+abbrev pub table_warnings : List (List ℕ) → List Warning
+table_warnings words =
+    option_to_list (name_warning words)
+    ++ (option_to_list (length_warning words)
+    ++ (option_to_list (expire_warning words) ++ (option_to_list (period_warning words) ++ option_to_list (server_warning words))))
+
+-- what is warned of in a line with these words, which gives this address: if all addresses are these, if some table is one of a peers
+-- section, and if this is warned of the line's networks
+abbrev pub line_warnings : List Place → Bool → Option Place → Option Warning → List (List ℕ) → List Warning
+line_warnings all some place outside words =
     option_to_list (place_warning all place)
-    ++ (option_to_list (name_warning words)
-    ++ (option_to_list (length_warning words) ++ (option_to_list (expire_warning words) ++ option_to_list (period_warning words))))
+    ++ (option_to_list outside ++ (option_to_list (section_warning some words) ++ table_warnings words))
 
 abbrev pub warned : ℕ → List Warning → List WarnedLine
 warned number found = map (λ warning. record { number = number; warning = warning }) found
 
--- what is warned of in these lines, in order, if all addresses are these
-abbrev pub AreWarnings : List Place → List Said → List WarnedLine → Type 0
-AreWarnings all [] found = found ≡ []
-AreWarnings all (line ∷ lines) found =
-    (place : Option Place) × (more : List WarnedLine)
+-- what is warned of in these lines, in order, if all addresses are these, and if some table is one of a peers section
+abbrev pub AreWarnings : List Place → Bool → List Said → List WarnedLine → Type 0
+AreWarnings all some [] found = found ≡ []
+AreWarnings all some (line ∷ lines) found =
+    (place : Option Place) × (outside : Option Warning) × (more : List WarnedLine)
     × IsPlaceOf line place
-    × (found ≡ warned line.0 (line_warnings all place line.1) ++ more)
-    × AreWarnings all lines more
+    × IsOutside place line.1 outside
+    × (found ≡ warned line.0 (line_warnings all some place outside line.1) ++ more)
+    × AreWarnings all some lines more
 
 -- what begins the line of a warning, and that of one without a line
 abbrev pub warned_head : WarnedLine → List ℕ
@@ -174,6 +253,6 @@ peers_heads false = []
 
 -- what is warned of in these lines, and a line that says each: of lines that have something, and behind them, that there are no peers
 pub record AreWarningsOf (lines : List Said) (w : Warnings) : Type 0 where
-  pub lines_warned : (all : List Place) × ArePlaces lines all × AreWarnings all lines w.lines.items
+  pub lines_warned : (all : List Place) × ArePlaces lines all × AreWarnings all (has_section_table lines) lines w.lines.items
   pub no_peers : w.no_peers ≡ is_none (line_of kinds.Peer lines)
   pub said : AreLines (map warned_head w.lines.items ++ peers_heads w.no_peers) w.said.items

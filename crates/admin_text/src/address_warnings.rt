@@ -1,15 +1,25 @@
 //! Addresses that are legal, and surely meant otherwise.
-ghost use Rattle.std.specs.Prelude.{◌≡◌, option_map};
-ghost use Rattle.admin_text.specs.Warnings.{admin_in, bits_of, has_same_port, is_every, is_here, is_same, listen_in, overlap_warning, overlaps, own_warning, peer_at, place_warning, port_warning, reaches};
+ghost use Rattle.std.specs.Prelude.{◌≡◌, IfOk, map, option_map};
+ghost use Rattle.std.specs.Net.Socket.{socket_ip};
+ghost use Rattle.admin_text.specs.PeerLines.{networks_part, source_part};
+ghost use Rattle.admin_text.specs.Warnings.{IsOutside, IsOutsideAll, IsOutsideIf, admin_in, bits_of, has_same_port, is_every, is_here, is_same, listen_in, outside_warning, overlap_warning, overlaps, own_warning, peer_at, place_warning, port_warning, reaches};
 ghost use Rattle.admin_text.specs.declared.warnings.Warning.TheVariants as warnings;
 
-use crate::networks::{MAPPED, address_bits};
-use crate::places::Place;
+use crate::line_refusals::LineRefusal;
+use crate::networks::{MAPPED, Network, address_bits};
+use crate::peer_lines::{networks_part, read_networks, source_part};
+use crate::peers::is_in_one;
+use crate::places::{Place, behind_name};
 use crate::warnings::Warning;
-use std::net::SocketAddr;
+use std::alloc::Global;
+use std::net::{IpAddr, SocketAddr};
+use table_types::Memory;
 
 /// What the bits of 127.0.0.0/8 begin with, behind which 24 come.
 const LOOPBACK: u128 = 0xffff7f;
+
+/// The place of the first word for a network in the line of a peer with an address.
+const FIRST_NETWORK: usize = 4;
 
 /// Returns what is surely meant otherwise of an address among those of all lines.
 pub(crate) fn place_warning(all: &[Place], place: Option<Place>) -> Option<Warning>
@@ -24,6 +34,65 @@ pub(crate) fn place_warning(all: &[Place], place: Option<Place>) -> Option<Warni
         Place::Peer(number, address) => {
             own_warning(&address, listen_in(all)).or(shared_warning(peer_at(number, &address, all)))
         }
+    }
+}
+
+/// Returns that a peer may not come from the address that these words give it, which is `place`, if it may not.
+pub(crate) fn outside_warning_of(
+    alloc: Global,
+    place: Option<Place>,
+    words: &[&[u8]],
+) -> Result<Option<Warning>, Memory>
+    ensures { IfOk result (IsOutside place (map (λ word. word.now) words.now)) }
+{
+    match place {
+        Some(Place::Peer(_, address)) => {
+            outside_warning_behind(alloc, behind_name(words), &address)
+        }
+        Some(Place::Listen(_, _) | Place::Admin(_, _) | Place::Metrics(_, _)) | None => Ok(None),
+    }
+}
+
+/// Returns that a peer may not come from its own address, if it may not, from the words behind its name.
+fn outside_warning_behind(
+    alloc: Global,
+    words: &[&[u8]],
+    address: &SocketAddr,
+) -> Result<Option<Warning>, Memory>
+    ensures { IfOk result (IsOutsideIf (networks_part (source_part (map (λ word. word.now) words.now))) (socket_ip address.now)) }
+{
+    match networks_part(source_part(words)) {
+        Some(networks) => outside_warning_at(alloc, networks, address),
+        None => Ok(None),
+    }
+}
+
+/// Returns that a peer may not come from its own address, which isn't in one of the networks that these words write, if it may not.
+fn outside_warning_at(
+    alloc: Global,
+    words: &[&[u8]],
+    address: &SocketAddr,
+) -> Result<Option<Warning>, Memory>
+    ensures { IfOk result (IsOutsideAll (map (λ word. word.now) words.now) (socket_ip address.now)) }
+{
+    match read_networks(alloc, FIRST_NETWORK, words) {
+        Ok(networks) => Ok(outside_warning(networks.as_slice(), &address.ip())),
+        Err(LineRefusal::Fault(_fault)) => Ok(None),
+        Err(LineRefusal::Memory) => Err(Memory),
+    }
+}
+
+/// Returns that a peer with these networks may not come from its own address, if it may not.
+fn outside_warning(networks: &[Network], address: &IpAddr) -> Option<Warning>
+    ensures { result ≡ outside_warning networks.now address.now }
+{
+    match networks {
+        [] => None,
+        [_, ..] => if is_in_one(networks, address) {
+            None
+        } else {
+            Some(Warning::Outside)
+        },
     }
 }
 

@@ -20,6 +20,7 @@ mod places;
 mod readings;
 mod refusals;
 mod said_lines;
+mod section_warnings;
 mod sentences;
 mod settings;
 mod so_far;

@@ -82,7 +82,7 @@ pub(crate) fn address_part<'a>(words: &[&'a [u8]]) -> Option<&'a [u8]>
 }
 
 /// Returns the words behind the address, from those behind the name.
-fn source_part<'a, 'b>(words: &'b [&'a [u8]]) -> &'b [&'a [u8]]
+pub(crate) fn source_part<'a, 'b>(words: &'b [&'a [u8]]) -> &'b [&'a [u8]]
     ensures { map (λ word. word.now) result.now ≡ source_part (map (λ word. word.now) words.now) }
 {
     match words {
@@ -92,7 +92,7 @@ fn source_part<'a, 'b>(words: &'b [&'a [u8]]) -> &'b [&'a [u8]]
 }
 
 /// Returns the words that have to be networks, from those behind the address: none, or some behind `from`.
-fn networks_part<'a, 'b>(words: &'b [&'a [u8]]) -> Option<&'b [&'a [u8]]>
+pub(crate) fn networks_part<'a, 'b>(words: &'b [&'a [u8]]) -> Option<&'b [&'a [u8]]>
     ensures { option_map (λ networks. map (λ word. word.now) networks.now) result ≡ networks_part (map (λ word. word.now) words.now) }
 {
     match words {
@@ -164,7 +164,7 @@ fn read_address(word: Option<&[u8]>) -> Result<Option<SocketAddr>, Fault>
 }
 
 /// Reads networks, from words of which the first is at `place`.
-fn read_networks(
+pub(crate) fn read_networks(
     alloc: Global,
     place: usize,
     words: &[&[u8]],

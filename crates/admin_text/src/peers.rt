@@ -35,7 +35,7 @@ impl Peer {
 }
 
 /// Returns whether an address is in one of the networks.
-fn is_in_one(networks: &[Network], address: &IpAddr) -> bool
+pub(crate) fn is_in_one(networks: &[Network], address: &IpAddr) -> bool
     ensures { result ≡ list_any (λ network. contains network address.now) networks.now }
 {
     for network in networks {

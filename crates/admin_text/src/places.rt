@@ -74,7 +74,7 @@ fn address_word<'a>(kind: LineKind, words: &[&'a [u8]]) -> Option<&'a [u8]>
 }
 
 /// Returns the words behind the first two.
-fn behind_name<'a, 'b>(words: &'b [&'a [u8]]) -> &'b [&'a [u8]]
+pub(crate) fn behind_name<'a, 'b>(words: &'b [&'a [u8]]) -> &'b [&'a [u8]]
     ensures { result.now ≡ drop 2 words.now }
 {
     match words {

@@ -90,6 +90,15 @@ pub(crate) fn warning_sentence(
         Warning::Shared(line) => format!(in alloc;
             "{about}: line {line} has a peer at this address, and each has its own"
         ),
+        Warning::Outside => {
+            let address = shown(words, 2);
+            format!(in alloc;
+                "{about}: its own address, {address}, is in no network behind \"from\", so it can't connect from there; add the address without its port, unless the peer comes from another one"
+            )
+        }
+        Warning::Unused => format!(in alloc;
+            "{about}: this changes nothing, since no table's name begins with /; the table ints of a peers section is /ints on the wire"
+        ),
         Warning::Length => length_warning_sentence(alloc, about, shown(words, 4)),
         Warning::Section => format!(in alloc;
             "{about}: the name on the wire of a table of a peers section is / and its name, without the section"
@@ -104,6 +113,12 @@ pub(crate) fn warning_sentence(
             let word = shown(words, place);
             format!(in alloc;
                 "{about}: HAProxy's periods are at most 2147483647 ms, so no table of HAProxy's has {word}"
+            )
+        }
+        Warning::Lacks(data_type) => {
+            let name = data_type.name();
+            format!(in alloc;
+                "{about}: HAProxy's \"stick\" rules add both server_id and server_key to their table; add {name}"
             )
         }
     }

@@ -1,11 +1,12 @@
 //! Tables that are legal, and surely meant otherwise.
 ghost use Rattle.std.specs.Prelude.{◌≡◌, drop, map, option_copied};
-ghost use Rattle.admin_text.specs.Warnings.{expire_warning, is_above, is_in_section, is_long, is_round, length_warning, long_period, name_warning, period_warning, writes_round};
+ghost use Rattle.admin_text.specs.Warnings.{expire_warning, has_type, is_above, is_in_section, is_long, is_round, lacking_type, length_warning, long_period, name_warning, period_warning, server_warning, writes_round};
 
 use crate::line_kinds::{LineKind, is_word_at};
 use crate::type_words::period_part;
 use crate::warnings::Warning;
 use node_text::number;
+use table_types::DataType;
 
 /// The greatest length of keys.
 const LONGEST_KEY: u64 = 8_192;
@@ -59,6 +60,45 @@ pub(crate) fn period_warning(words: &[&[u8]]) -> Option<Warning>
     } else {
         None
     }
+}
+
+/// Returns that HAProxy adds server_id and server_key together, if these are the words of a table that stores just one of them.
+pub(crate) fn server_warning(words: &[&[u8]]) -> Option<Warning>
+    ensures { result ≡ server_warning (map (λ word. word.now) words.now) }
+{
+    if LineKind::Table.has(words) {
+        let types = types_in(words);
+        let lacking = lacking_type(
+            has_type(types, b"server_id"),
+            has_type(types, b"server_key"),
+        )?;
+        Some(Warning::Lacks(lacking))
+    } else {
+        None
+    }
+}
+
+/// Returns which of server_id and server_key lacks, if only the other one is there.
+fn lacking_type(has_id: bool, has_key: bool) -> Option<DataType>
+    ensures { result ≡ lacking_type has_id has_key }
+{
+    match (has_id, has_key) {
+        (false, true) => Some(DataType::ServerId),
+        (true, false) => Some(DataType::ServerKey),
+        (true, true) | (false, false) => None,
+    }
+}
+
+/// Returns whether one of the words is this one.
+fn has_type(words: &[&[u8]], word: &[u8]) -> bool
+    ensures { result ≡ has_type word.now (map (λ word. word.now) words.now) }
+{
+    for other in words {
+        if *other == word {
+            return true;
+        }
+    }
+    false
 }
 
 /// Returns the words of a table's data types.

@@ -4,20 +4,24 @@ ghost use Rattle.admin_text.specs.Before.{line_of};
 ghost use Rattle.admin_text.specs.Places.{IsPlaceOf};
 ghost use Rattle.admin_text.specs.Refusals.{AreLines};
 ghost use Rattle.admin_text.specs.Statements.{said_by};
-ghost use Rattle.admin_text.specs.Warnings.{AreWarningsOf, line_warnings, peers_heads, warned, warned_head};
+ghost use Rattle.admin_text.specs.Warnings.{AreWarningsOf, IsOutside, line_warnings, peers_heads, table_warnings, warned, warned_head};
 ghost use Rattle.admin_text.specs.declared.line_kinds.LineKind.TheVariants as kinds;
 ghost use Rattle.admin_text.specs.declared.places.Place.{Place};
+ghost use Rattle.admin_text.specs.declared.warnings.Warning.{Warning};
 
-use crate::address_warnings::place_warning;
+use crate::address_warnings::{outside_warning_of, place_warning};
 use crate::before::line_of;
 use crate::line_kinds::LineKind;
 use crate::places::{Place, place_of, places_of};
 use crate::said_lines::{push_line, push_numbered};
+use crate::section_warnings::{has_section_table, section_warning};
 use crate::sentences::warning_sentence;
 use crate::statements::Statement;
-use crate::table_warnings::{expire_warning, length_warning, name_warning, period_warning};
+use crate::table_warnings::{
+    expire_warning, length_warning, name_warning, period_warning, server_warning,
+};
 use std::alloc::Global;
-use table_types::Memory;
+use table_types::{DataType, Memory};
 
 /// What is legal in a line, and surely meant otherwise. Other lines are given by their numbers.
 #[derive(Clone, Copy, Debug, PartialEq, Eq)]
@@ -30,6 +34,10 @@ pub enum Warning {
     Own(usize),
     /// This line has a peer at the address.
     Shared(usize),
+    /// The peer may not come from its own address.
+    Outside,
+    /// The section's name stands before the name of no table.
+    Unused,
     /// The length of strings is HAProxy's `len`, it seems.
     Length,
     /// The name has a section in front, which doesn't go over the wire.
@@ -38,6 +46,8 @@ pub enum Warning {
     Expire,
     /// The data type at this place has a longer period than HAProxy's may have.
     Period(usize),
+    /// HAProxy adds this data type wherever it adds another one that the table stores.
+    Lacks(DataType),
 }
 
 /// A warning of a line.
@@ -61,23 +71,39 @@ pub struct Warnings {
 }
 
 impl Warnings {
-    /// Notes the warnings of a line, if all addresses are these.
+    /// Notes the warnings of a line, if all addresses are these, and `some` says whether a table is one of a peers section.
     fn note_line(
         &mut self,
         alloc: Global,
         all: &[Place],
+        some: bool,
         line: &Statement<'_>,
     ) -> Result<(), Memory>
-        ensures listed { OnOk result ((place : Option Place) × IsPlaceOf (said_by line.now) place × (self.new.lines.items ≡ self.old.lines.items ++ warned line.now.number (line_warnings all.now place (map (λ word. word.now) line.now.words.items)))) }
+        ensures listed { OnOk result ((place : Option Place) × (outside : Option Warning) × IsPlaceOf (said_by line.now) place × IsOutside place (map (λ word. word.now) line.now.words.items) outside × (self.new.lines.items ≡ self.old.lines.items ++ warned line.now.number (line_warnings all.now some place outside (map (λ word. word.now) line.now.words.items)))) }
         ensures said { AreLines (map warned_head self.old.lines.items) self.old.said.items → OnOk result (AreLines (map warned_head self.new.lines.items) self.new.said.items) }
         ensures no_peers { self.new.no_peers ≡ self.old.no_peers }
     {
         let words = line.words.as_slice();
-        self.note(alloc, line, place_warning(all, place_of(line)))?;
+        let place = place_of(line);
+        let outside = outside_warning_of(alloc, place, words)?;
+        self.note(alloc, line, place_warning(all, place))?;
+        self.note(alloc, line, outside)?;
+        self.note(alloc, line, section_warning(some, words))?;
+        self.note_table(alloc, line)
+    }
+
+    /// Notes the warnings of the line of a table.
+    fn note_table(&mut self, alloc: Global, line: &Statement<'_>) -> Result<(), Memory>
+        ensures listed { OnOk result (self.new.lines.items ≡ self.old.lines.items ++ warned line.now.number (table_warnings (map (λ word. word.now) line.now.words.items))) }
+        ensures said { AreLines (map warned_head self.old.lines.items) self.old.said.items → OnOk result (AreLines (map warned_head self.new.lines.items) self.new.said.items) }
+        ensures no_peers { self.new.no_peers ≡ self.old.no_peers }
+    {
+        let words = line.words.as_slice();
         self.note(alloc, line, name_warning(words))?;
         self.note(alloc, line, length_warning(words))?;
         self.note(alloc, line, expire_warning(words))?;
-        self.note(alloc, line, period_warning(words))
+        self.note(alloc, line, period_warning(words))?;
+        self.note(alloc, line, server_warning(words))
     }
 
     /// Notes a warning of a line, if there is one.
@@ -123,13 +149,14 @@ pub(crate) fn warnings_of(alloc: Global, lines: &[Statement<'_>]) -> Result<Warn
     ensures { IfOk result (AreWarningsOf (map said_by lines.now)) }
 {
     let all = places_of(alloc, lines)?;
+    let some = has_section_table(lines);
     let mut warnings = Warnings {
         lines: Vec::new(alloc),
         no_peers: false,
         said: Vec::new(alloc),
     };
     for line in lines {
-        warnings.note_line(alloc, all.as_slice(), line)?;
+        warnings.note_line(alloc, all.as_slice(), some, line)?;
     }
     warnings.note_peers(lines)?;
     Ok(warnings)

@@ -1,6 +1,6 @@
 -- Rounds end: each of them leaves one peer less that was asked no later than the one that finishes.
 use Rattle.std.proofs.Common.{◌≡◌, ℕ, zero, suc, ◌+◌, ◌-◌, ◌*◌, ◌≤◌, ◌<◌, Bool, true, false, not, ◌&&◌, ◌||◌, cond, List, [], ◌∷◌, length, Option, Some, None, ◌⊎◌, inl, inr, refl, sym, ap, ◌∙◌, subst, arith}
-use Rattle.std.specs.Prelude.{is_none, slice_get}
+use Rattle.std.specs.Prelude.{is_none, nat_le, slice_get}
 use Rattle.std.specs.List.{list_all}
 use Rattle.std.proofs.lemmas.Bool.{cases_eq, eq-eqb, false≢true, le-leb}
 use Rattle.std.proofs.lemmas.Bool.Decides.{nat_tests}
@@ -217,8 +217,8 @@ answered_ahead Nothing q later t a = refl
 answered_none : (answer : Answer) (q now : ℕ) (a : AskingState) (d : Candidate) → slice_get a.peers q ≡ Some d → (answered answer q (now + 5000) (asked q now a)).awaited ≡ None
 answered_none Finished q now a d found = ap (λ (b : Bool). AskingState.awaited (cond b (record (asked q now a) { up_to_date = true; awaited = None }) (asked q now a))) (owes_then q now a d found)
 answered_none Partial q now a d found = ap (λ (b : Bool). AskingState.awaited (cond b (stood standings.Partial q (asked q now a)) (asked q now a))) (owes_then q now a d found)
-    ∙ ap (λ (b : Bool). cond b None (Some (record { peer = q; since = now }))) (eq-eqb q q refl)
-answered_none Nothing q now a d found = ap (λ (b : Bool). cond b None (Some (record { peer = q; since = now }))) (le-leb 5000 (now + 5000 - now) (omega arith))
+    ∙ ap (λ (b : Bool). cond b None (Some (record { peer = q; asked_at = now; since = now }))) (eq-eqb q q refl)
+answered_none Nothing q now a d found = ap (λ (b : Bool). cond (b || nat_le 600000 (now + 5000 - now)) None (Some (record { peer = q; asked_at = now; since = now }))) (le-leb 5000 (now + 5000 - now) (omega arith))
 
 finishes : (answer : Answer) (q later now : ℕ) (a : AskingState) (d : Candidate) → answer ≡ Finished → slice_get a.peers q ≡ Some d → (answered answer q later (asked q now a)).up_to_date ≡ true
 finishes Finished q later now a d is found = ap (λ (b : Bool). AskingState.up_to_date (cond b (record (asked q now a) { up_to_date = true; awaited = None }) (asked q now a))) (owes_then q now a d found)

@@ -1,12 +1,13 @@
 -- Who is waited for, and how long.
-use Rattle.std.proofs.Common.{◌≡◌, ℕ, ◌+◌, ◌-◌, ◌≤◌, Bool, true, false, not, ◌&&◌, ◌||◌, ◌==◌, cond, List, [], ◌∷◌, Option, Some, None, refl, sym, ap, ◌∙◌, subst, arith}
-use Rattle.std.specs.Prelude.{is_none, option_map, slice_get}
+use Rattle.std.proofs.Common.{◌≡◌, ℕ, ◌+◌, ◌-◌, ◌≤◌, ◌<◌, Bool, true, false, not, ◌&&◌, ◌||◌, ◌==◌, cond, List, [], ◌∷◌, Option, Some, None, refl, sym, ap, ◌∙◌, subst, arith}
+use Rattle.std.specs.Prelude.{is_none, nat_le, option_map, slice_get}
 use Rattle.std.specs.List.{list_any}
 use Rattle.std.proofs.lemmas.Bool.{eq-eqb, eqb-true, false≢true, le-leb}
+use Rattle.std.proofs.lemmas.Bool.Decides.{nat_tests}
 use Rattle.node_core.specs.declared.asking.Standing.TheVariants as standings
 use Rattle.node_core.specs.declared.asking.Awaited.{Awaited}
-use Rattle.node_core.specs.CatchingUp.{AskingState, asked, heard_from, is_first, is_mute, is_next, is_settled, lapsed, owes, still_awaited, stood, unless_it}
-use Rattle.node_core.specs.AskingRuns.{Happening, Begins, Ends, Asks, Brings, Finishes, FinishesPartly, Passes, IsAwaited, after, after_all, is_from, may_end}
+use Rattle.node_core.specs.CatchingUp.{AskingState, asked, heard, heard_from, is_first, is_mute, is_next, is_over, is_settled, lapsed, owes, still_awaited, stood, unless_it}
+use Rattle.node_core.specs.AskingRuns.{Happening, Begins, Ends, Asks, Brings, Finishes, FinishesPartly, Passes, IsAwaited, after, after_all, is_asking, is_from, may_end}
 
 -- ---- nobody else is asked
 
@@ -51,112 +52,162 @@ waits_on a w (FinishesPartly peer) is may = (w, by (owes (slice_get a.peers peer
     by false = is
 waits_on a w (Passes now) is may = (w, still, refl)
   where
-    not_mute : is_mute now w ≡ false
-    not_mute = first_false (is_mute now w) (is_settled now a) may
+    not_over : is_over now w ≡ false
+    not_over = first_false (is_over now w) (is_settled now a) may
 
     waited : still_awaited now a.awaited ≡ Some w
-    waited = rw is (rw not_mute refl)
+    waited = rw is (rw not_over refl)
 
     still : (after (Passes now) a).awaited ≡ Some w
-    still = ap (λ (b : Bool). AskingState.awaited (cond b (record (lapsed now a) { up_to_date = true; awaited = None }) (lapsed now a))) (second_false (is_mute now w) (is_settled now a) may) ∙ waited
+    still = ap (λ (b : Bool). AskingState.awaited (cond b (record (lapsed now a) { up_to_date = true; awaited = None }) (lapsed now a))) (second_false (is_over now w) (is_settled now a) may) ∙ waited
 
--- ---- a mute peer
+-- ---- what stays of who is waited for
 
--- the peer, if it is waited for, has been since this moment
-abbrev IsSince : ℕ → ℕ → Option Awaited → Type 0
-IsSince peer since o = (w : Awaited) → o ≡ Some w → w.peer ≡ peer → w.since ≡ since
+-- such is the peer that is waited for, if there is one
+abbrev Are : (Awaited → Type 0) → Option Awaited → Type 0
+Are P o = (w : Awaited) → o ≡ Some w → P w
 
-unless_since : (peer since other : ℕ) (o : Option Awaited) → IsSince peer since o → IsSince peer since (unless_it other o)
-unless_since peer since other None holds w is same = cc
-unless_since peer since other (Some v) holds w is same = by (v.peer == other) is
+-- what happens leaves whoever is waited for such
+abbrev Leaves : (Awaited → Type 0) → Happening → Type 0
+Leaves P (Begins other) = Unit {0}
+Leaves P (Ends other) = Unit {0}
+Leaves P (Asks other now) = P (record { peer = other; asked_at = now; since = now })
+Leaves P (Brings other now) = (v : Awaited) → P v → P (heard_from other now v)
+Leaves P (Finishes other) = Unit {0}
+Leaves P (FinishesPartly other) = Unit {0}
+Leaves P (Passes now) = Unit {0}
+
+some_same : (v w : Awaited) → Some v ≡ Some w → v ≡ w
+some_same v w is = cc
+
+unless_are : (P : Awaited → Type 0) (other : ℕ) (o : Option Awaited) → Are P o → Are P (unless_it other o)
+unless_are P other None are w is = cc
+unless_are P other (Some v) are w is = by (v.peer == other) is
   where
-    by : (b : Bool) → cond b None (Some v) ≡ Some w → w.since ≡ since
+    by : (b : Bool) → cond b None (Some v) ≡ Some w → P w
     by true is = cc
-    by false is = holds w is same
+    by false is = are w is
 
-heard_since : (peer since other now : ℕ) (o : Option Awaited) → (other == peer) ≡ false → IsSince peer since o → IsSince peer since (option_map (heard_from other now) o)
-heard_since peer since other now None apart holds w is same = cc
-heard_since peer since other now (Some v) apart holds w is same = by (v.peer == other) refl is
+heard_are : (P : Awaited → Type 0) (other now : ℕ) (o : Option Awaited) → ((v : Awaited) → P v → P (heard_from other now v)) → Are P o → Are P (option_map (heard_from other now) o)
+heard_are P other now None leaves are w is = cc
+heard_are P other now (Some v) leaves are w is = subst P (some_same (heard_from other now v) w is) (leaves v (are v refl))
+
+still_are : (P : Awaited → Type 0) (now : ℕ) (o : Option Awaited) → Are P o → Are P (still_awaited now o)
+still_are P now None are w is = cc
+still_are P now (Some v) are w is = by (is_over now v) is
   where
-    by : (b : Bool) → (v.peer == other) ≡ b → Some (cond b (record v { since = now }) v) ≡ Some w → w.since ≡ since
-    by true equal is = absurd (differ apart)
-      where
-        there : v.peer ≡ peer
-        there = ap Awaited.peer (some_same is) ∙ same
-          where
-            some_same : Some (record v { since = now }) ≡ Some w → record v { since = now } ≡ w
-            some_same is = cc
-
-        differ : (other == peer) ≡ false → ⊥
-        differ apart = false≢true (sym apart ∙ eq-eqb other peer (sym (eqb-true v.peer other equal) ∙ there))
-    by false equal is = holds w is same
-
-still_since : (peer since now : ℕ) (o : Option Awaited) → IsSince peer since o → IsSince peer since (still_awaited now o)
-still_since peer since now None holds w is same = cc
-still_since peer since now (Some v) holds w is same = by (is_mute now v) is
-  where
-    by : (b : Bool) → cond b None (Some v) ≡ Some w → w.since ≡ since
+    by : (b : Bool) → cond b None (Some v) ≡ Some w → P w
     by true is = cc
-    by false is = holds w is same
+    by false is = are w is
 
-passes_since : (peer since now : ℕ) (b : Bool) (a : AskingState) → IsSince peer since a.awaited → IsSince peer since (AskingState.awaited (cond b (record (lapsed now a) { up_to_date = true; awaited = None }) (lapsed now a)))
-passes_since peer since now true a holds w is same = cc
-passes_since peer since now false a holds w is same = still_since peer since now a.awaited holds w is same
+passes_are : (P : Awaited → Type 0) (now : ℕ) (b : Bool) (a : AskingState) → Are P a.awaited → Are P (AskingState.awaited (cond b (record (lapsed now a) { up_to_date = true; awaited = None }) (lapsed now a)))
+passes_are P now true a are w is = cc
+passes_are P now false a are w is = still_are P now a.awaited are w is
 
-step_since : (peer since : ℕ) (a : AskingState) (h : Happening) → is_from peer h ≡ false → IsSince peer since a.awaited → IsSince peer since (after h a).awaited
-step_since peer since a (Begins other) apart holds = unless_since peer since other a.awaited holds
-step_since peer since a (Ends other) apart holds = unless_since peer since other a.awaited holds
-step_since peer since a (Asks other now) apart holds = by (is_next other now a)
+step_are : (P : Awaited → Type 0) (a : AskingState) (h : Happening) → Leaves P h → Are P a.awaited → Are P (after h a).awaited
+step_are P a (Begins other) leaves are = unless_are P other a.awaited are
+step_are P a (Ends other) leaves are = unless_are P other a.awaited are
+step_are P a (Asks other now) leaves are = by (is_next other now a)
   where
-    by : (b : Bool) → IsSince peer since (AskingState.awaited (cond b (asked other now a) a))
-    by false = holds
-    by true = λ w is same. absurd (false≢true (sym apart ∙ eq-eqb other peer (ap Awaited.peer (some_same w is) ∙ same)))
-      where
-        some_same : (w : Awaited) → ◌≡◌ {A = Option Awaited} (Some (record { peer = other; since = now })) (Some w) → ◌≡◌ {A = Awaited} (record { peer = other; since = now }) w
-        some_same w is = cc
-step_since peer since a (Brings other now) apart holds = heard_since peer since other now a.awaited apart holds
-step_since peer since a (Finishes other) apart holds = by (owes (slice_get a.peers other))
+    by : (b : Bool) → Are P (AskingState.awaited (cond b (asked other now a) a))
+    by false = are
+    by true = λ w is. subst P (some_same (record { peer = other; asked_at = now; since = now }) w is) leaves
+step_are P a (Brings other now) leaves are = heard_are P other now a.awaited leaves are
+step_are P a (Finishes other) leaves are = by (owes (slice_get a.peers other))
   where
-    by : (b : Bool) → IsSince peer since (AskingState.awaited (cond b (record a { up_to_date = true; awaited = None }) a))
-    by true = λ w is same. cc
-    by false = holds
-step_since peer since a (FinishesPartly other) apart holds = by (owes (slice_get a.peers other))
+    by : (b : Bool) → Are P (AskingState.awaited (cond b (record a { up_to_date = true; awaited = None }) a))
+    by true = λ w is. cc
+    by false = are
+step_are P a (FinishesPartly other) leaves are = by (owes (slice_get a.peers other))
   where
-    by : (b : Bool) → IsSince peer since (AskingState.awaited (cond b (stood standings.Partial other a) a))
-    by true = unless_since peer since other a.awaited holds
-    by false = holds
-step_since peer since a (Passes now) apart holds = passes_since peer since now (is_settled now a) a holds
+    by : (b : Bool) → Are P (AskingState.awaited (cond b (stood standings.Partial other a) a))
+    by true = unless_are P other a.awaited are
+    by false = are
+step_are P a (Passes now) leaves are = passes_are P now (is_settled now a) a are
 
-run_since : (peer since : ℕ) (hs : List Happening) (a : AskingState) → list_any (is_from peer) hs ≡ false → IsSince peer since a.awaited → IsSince peer since (after_all hs a).awaited
-run_since peer since [] a apart holds = holds
-run_since peer since (h ∷ hs) a apart holds = run_since peer since hs (after h a) (second_false (is_from peer h) (list_any (is_from peer) hs) apart) (step_since peer since a h (first_false (is_from peer h) (list_any (is_from peer) hs) apart) holds)
+run_are : (P : Awaited → Type 0) (test : Happening → Bool) (hs : List Happening) (a : AskingState) → ((h : Happening) → test h ≡ false → Leaves P h) → list_any test hs ≡ false → Are P a.awaited → Are P (after_all hs a).awaited
+run_are P test [] a leaves none are = are
+run_are P test (h ∷ hs) a leaves none are = run_are P test hs (after h a) leaves (second_false (test h) (list_any test hs) none) (step_are P a h (leaves h (first_false (test h) (list_any test hs) none)) are)
 
--- nobody is waited for who is mute
-lapsed_fresh : (now : ℕ) (o : Option Awaited) (w : Awaited) → still_awaited now o ≡ Some w → (o ≡ Some w) × (is_mute now w ≡ false)
+-- ---- the end of the wait
+
+-- whoever is waited for once the time is noted was so before, and the wait isn't over
+lapsed_fresh : (now : ℕ) (o : Option Awaited) (w : Awaited) → still_awaited now o ≡ Some w → (o ≡ Some w) × (is_over now w ≡ false)
 lapsed_fresh now None w is = cc
-lapsed_fresh now (Some v) w is = by (is_mute now v) refl is
+lapsed_fresh now (Some v) w is = by (is_over now v) refl is
   where
-    by : (b : Bool) → is_mute now v ≡ b → cond b None (Some v) ≡ Some w → (Some v ≡ Some w) × (is_mute now w ≡ false)
-    by true mute is = cc
-    by false mute is = (is, subst (λ (x : Awaited). is_mute now x ≡ false) (some_same is) mute)
-      where
-        some_same : Some v ≡ Some w → v ≡ w
-        some_same is = cc
+    by : (b : Bool) → is_over now v ≡ b → cond b None (Some v) ≡ Some w → (Some v ≡ Some w) × (is_over now w ≡ false)
+    by true over is = cc
+    by false over is = (is, subst (λ (x : Awaited). is_over now x ≡ false) (some_same v w is) over)
 
-passes_fresh : (now : ℕ) (b : Bool) (a : AskingState) (w : Awaited) → AskingState.awaited (cond b (record (lapsed now a) { up_to_date = true; awaited = None }) (lapsed now a)) ≡ Some w → (a.awaited ≡ Some w) × (is_mute now w ≡ false)
+passes_fresh : (now : ℕ) (b : Bool) (a : AskingState) (w : Awaited) → AskingState.awaited (cond b (record (lapsed now a) { up_to_date = true; awaited = None }) (lapsed now a)) ≡ Some w → (a.awaited ≡ Some w) × (is_over now w ≡ false)
 passes_fresh now true a w is = cc
 passes_fresh now false a w is = lapsed_fresh now a.awaited w is
 
+-- the peer that is asked is waited for as it is then
+asked_is : (P : Awaited → Type 0) (a : AskingState) (peer when : ℕ) → is_next peer when a ≡ true → P (record { peer = peer; asked_at = when; since = when }) → Are P (after (Asks peer when) a).awaited
+asked_is P a peer when next such = subst (λ (b : Bool). Are P (AskingState.awaited (cond b (asked peer when a) a))) (sym next) (λ w is. subst P (some_same (record { peer = peer; asked_at = when; since = when }) w is) such)
+
+-- the peer, if it is waited for, has been mute since this moment
+abbrev IsSince : ℕ → ℕ → Awaited → Type 0
+IsSince peer since w = w.peer ≡ peer → w.since ≡ since
+
+-- the peer, if it is waited for, was asked at this moment
+abbrev WasAsked : ℕ → ℕ → Awaited → Type 0
+WasAsked peer when w = w.peer ≡ peer → w.asked_at ≡ when
+
+another : (other peer : ℕ) → (other == peer) ≡ false → other ≡ peer → ⊥
+another other peer apart same = false≢true (sym apart ∙ eq-eqb other peer same)
+
+leaves_since : (peer since : ℕ) (h : Happening) → is_from peer h ≡ false → Leaves (IsSince peer since) h
+leaves_since peer since (Begins other) apart = tt
+leaves_since peer since (Ends other) apart = tt
+leaves_since peer since (Asks other now) apart = λ same. absurd (another other peer apart same)
+leaves_since peer since (Brings other now) apart = λ v holds. by v holds (v.peer == other) refl
+  where
+    by : (v : Awaited) → IsSince peer since v → (b : Bool) → (v.peer == other) ≡ b → IsSince peer since (cond b (record v { since = now }) v)
+    by v holds true equal = λ same. absurd (another other peer apart (sym (eqb-true v.peer other equal) ∙ same))
+    by v holds false equal = holds
+leaves_since peer since (Finishes other) apart = tt
+leaves_since peer since (FinishesPartly other) apart = tt
+leaves_since peer since (Passes now) apart = tt
+
+leaves_asked : (peer when : ℕ) (h : Happening) → is_asking peer h ≡ false → Leaves (WasAsked peer when) h
+leaves_asked peer when (Begins other) apart = tt
+leaves_asked peer when (Ends other) apart = tt
+leaves_asked peer when (Asks other now) apart = λ same. absurd (another other peer apart same)
+leaves_asked peer when (Brings other now) apart = λ v holds. by v holds (v.peer == other)
+  where
+    by : (v : Awaited) → WasAsked peer when v → (b : Bool) → WasAsked peer when (cond b (record v { since = now }) v)
+    by v holds true = holds
+    by v holds false = holds
+leaves_asked peer when (Finishes other) apart = tt
+leaves_asked peer when (FinishesPartly other) apart = tt
+leaves_asked peer when (Passes now) apart = tt
+
 pub mute_ends : (a : AskingState) (peer since now : ℕ) (hs : List Happening) → is_next peer since a ≡ true → list_any (is_from peer) hs ≡ false → since + 5000 ≤ now → IsAwaited peer (after (Passes now) (after_all hs (after (Asks peer since) a))) → ⊥
 mute_ends a peer since now hs next apart late (w, is, same) =
-    let began : IsSince peer since (after (Asks peer since) a).awaited = ap_began next in
     let end : AskingState = after_all hs (after (Asks peer since) a) in
     let fresh = passes_fresh now (is_settled now end) end w is in
-    let when : w.since ≡ since = run_since peer since hs (after (Asks peer since) a) apart began w fresh.0 same in
-    false≢true (sym fresh.1 ∙ le-leb 5000 (now - w.since) (omega (arith, when, late)))
+    let began = asked_is (IsSince peer since) a peer since next (λ same. refl) in
+    let when : w.since ≡ since = run_are (IsSince peer since) (is_from peer) hs (after (Asks peer since) a) (leaves_since peer since) apart began w fresh.0 same in
+    false≢true (sym (first_false (is_mute now w) (nat_le 600000 (now - w.asked_at)) fresh.1) ∙ le-leb 5000 (now - w.since) (omega (arith, when, late)))
+
+pub wait_ends : (a : AskingState) (peer when now : ℕ) (hs : List Happening) → is_next peer when a ≡ true → list_any (is_asking peer) hs ≡ false → when + 600000 ≤ now → IsAwaited peer (after (Passes now) (after_all hs (after (Asks peer when) a))) → ⊥
+wait_ends a peer when now hs next apart late (w, is, same) =
+    let end : AskingState = after_all hs (after (Asks peer when) a) in
+    let fresh = passes_fresh now (is_settled now end) end w is in
+    let began = asked_is (WasAsked peer when) a peer when next (λ same. refl) in
+    let then : w.asked_at ≡ when = run_are (WasAsked peer when) (is_asking peer) hs (after (Asks peer when) a) (leaves_asked peer when) apart began w fresh.0 same in
+    false≢true (sym (second_false (is_mute now w) (nat_le 600000 (now - w.asked_at)) fresh.1) ∙ le-leb 600000 (now - w.asked_at) (omega (arith, then, late)))
+
+-- ---- a peer that brings rows
+
+still_on : (asked now later : ℕ) → later < now + 5000 → later < asked + 600000 → (nat_le 5000 (later - now) || nat_le 600000 (later - asked)) ≡ false
+still_on asked now later soon within = grind (arith, nat_tests)
+
+pub rows_keep_the_wait : (a : AskingState) (w : Awaited) (now later : ℕ) → a.awaited ≡ Some w → later < now + 5000 → later < w.asked_at + 600000 → IsAwaited w.peer (lapsed later (heard w.peer now a))
+rows_keep_the_wait a w now later is soon within = (record w { since = now }, waited, refl)
   where
-    ap_began : is_next peer since a ≡ true → IsSince peer since (after (Asks peer since) a).awaited
-    ap_began next = subst (λ (b : Bool). IsSince peer since (AskingState.awaited (cond b (asked peer since a) a))) (sym next) (λ w is same. by w is)
-      where
-        by : (w : Awaited) → ◌≡◌ {A = Option Awaited} (Some (record { peer = peer; since = since })) (Some w) → w.since ≡ since
-        by w is = cc
+    waited : still_awaited later (option_map (heard_from w.peer now) a.awaited) ≡ Some (record w { since = now })
+    waited = rw is (rw (eq-eqb w.peer w.peer refl) (rw (still_on w.asked_at now later soon within) refl))

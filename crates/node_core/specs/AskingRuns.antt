@@ -3,7 +3,7 @@ use Rattle.std.specs.Prelude.{◌≡◌, ℕ, ◌+◌, Bool, true, false, ◌==�
 use Rattle.node_core.specs.declared.asking.Standing.TheVariants as standings
 use Rattle.node_core.specs.declared.asking.Candidate.{Candidate}
 use Rattle.node_core.specs.declared.asking.Awaited.{Awaited}
-use Rattle.node_core.specs.CatchingUp.{AskingState, asked, asked_if_next, can_be_asked, finished, heard, is_mute, is_next, is_settled, lapsed, partly_finished, settled, stood}
+use Rattle.node_core.specs.CatchingUp.{AskingState, asked, asked_if_next, can_be_asked, finished, heard, is_next, is_over, is_settled, lapsed, partly_finished, settled, stood}
 
 -- What happens: a session with a peer begins or ends; a peer is asked at a moment if it is next; it brings a row at a moment; it ends
 -- its resync as finished, or as partial; the time is noted.
@@ -30,6 +30,16 @@ abbrev pub after_all : List Happening → AskingState → AskingState
 after_all [] a = a
 after_all (h ∷ hs) a = after_all hs (after h a)
 
+-- the peer is asked
+abbrev pub is_asking : ℕ → Happening → Bool
+is_asking peer (Begins other) = false
+is_asking peer (Ends other) = false
+is_asking peer (Asks other now) = other == peer
+is_asking peer (Brings other now) = false
+is_asking peer (Finishes other) = false
+is_asking peer (FinishesPartly other) = false
+is_asking peer (Passes now) = false
+
 -- the peer brings a row, or is asked
 abbrev pub is_from : ℕ → Happening → Bool
 is_from peer (Begins other) = false
@@ -41,7 +51,7 @@ is_from peer (FinishesPartly other) = false
 is_from peer (Passes now) = false
 
 -- the wait for a peer may end: some peer ends its resync as finished, this one as partial, its session ends or another one of it
--- begins, or it has been mute for 5 s, or all have taught what they have
+-- begins, or it has been mute for 5 s or was asked ten minutes ago, or all have taught what they have
 abbrev pub may_end : AskingState → Awaited → Happening → Bool
 may_end a w (Begins peer) = w.peer == peer
 may_end a w (Ends peer) = w.peer == peer
@@ -49,7 +59,7 @@ may_end a w (Asks peer now) = false
 may_end a w (Brings peer now) = false
 may_end a w (Finishes peer) = true
 may_end a w (FinishesPartly peer) = w.peer == peer
-may_end a w (Passes now) = is_mute now w || is_settled now a
+may_end a w (Passes now) = is_over now w || is_settled now a
 
 -- somebody waits for the peer
 abbrev pub IsAwaited : ℕ → AskingState → Type 0

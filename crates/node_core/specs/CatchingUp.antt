@@ -5,8 +5,10 @@ use Rattle.node_core.specs.declared.asking.Standing.{Standing}
 use Rattle.node_core.specs.declared.asking.Standing.TheVariants as standings
 use Rattle.node_core.specs.declared.asking.Candidate.{Candidate}
 use Rattle.node_core.specs.declared.asking.Awaited.{Awaited}
+use Rattle.node_core.specs.declared.asking.WaitEnd.{WaitEnd}
+use Rattle.node_core.specs.declared.asking.WaitEnd.TheVariants as waits
 
--- Whether the node is up to date; the peer that is waited for, since when it has been silent; and how each peer stands.
+-- Whether the node is up to date; the peer that is waited for, when it was asked, and since when it has been silent; and how each peer stands.
 pub record AskingState : Type 0 where
   pub up_to_date : Bool
   pub awaited : Option Awaited
@@ -55,7 +57,7 @@ changed f (suc peer) (p ∷ ps) = p ∷ changed f peer ps
 -- the peer is waited for from now on
 abbrev pub asked : ℕ → ℕ → AskingState → AskingState
 asked peer now a = record a {
-  awaited = Some (record { peer = peer; since = now });
+  awaited = Some (record { peer = peer; asked_at = now; since = now });
   peers = changed (λ p. record { standing = standings.Asked; asked_at = Some now }) peer a.peers;
 }
 
@@ -86,11 +88,15 @@ owes (Some p) = is_asked p.standing
 abbrev pub finished : ℕ → AskingState → AskingState
 finished peer a = if owes (slice_get a.peers peer) then record a { up_to_date = true; awaited = None } else a
 
+-- the node becomes up to date by that
+abbrev pub is_done_by : ℕ → AskingState → Bool
+is_done_by peer a = owes (slice_get a.peers peer) && not a.up_to_date
+
 -- a peer that was asked has taught what it has, which isn't all
 abbrev pub partly_finished : ℕ → AskingState → AskingState
 partly_finished peer a = if owes (slice_get a.peers peer) then stood standings.Partial peer a else a
 
--- a peer has brought a row: it is waited for anew, if it is waited for
+-- a peer has brought a row: it isn't mute, if it is waited for
 abbrev pub heard_from : ℕ → ℕ → Awaited → Awaited
 heard_from peer now w = if w.peer == peer then record w { since = now } else w
 
@@ -103,19 +109,34 @@ heard peer now a = record a { awaited = option_map (heard_from peer now) a.await
 
 -- ---- by the clock
 
+-- the node was held up until now: whoever is waited for is so anew
+abbrev pub anew_from : ℕ → Awaited → Awaited
+anew_from now w = record w { since = now }
+
+abbrev pub waited_anew : ℕ → AskingState → AskingState
+waited_anew now a = record a { awaited = option_map (anew_from now) a.awaited }
+
 -- for 5 s neither a row came nor an end
 abbrev pub is_mute : ℕ → Awaited → Bool
 is_mute now w = nat_le 5000 (now - w.since)
 
-abbrev pub unanswered : ℕ → Option Awaited → Option ℕ
+-- the wait is over: the peer is mute, or was asked ten minutes ago, whatever it has brought
+abbrev pub is_over : ℕ → Awaited → Bool
+is_over now w = is_mute now w || nat_le 600000 (now - w.asked_at)
+
+-- which of the two, first of all that the peer is mute
+abbrev pub wait_end : ℕ → Awaited → WaitEnd
+wait_end now w = if is_mute now w then waits.Mute else waits.Endless
+
+abbrev pub unanswered : ℕ → Option Awaited → Option (ℕ × WaitEnd)
 unanswered now None = None
-unanswered now (Some w) = if is_mute now w then Some w.peer else None
+unanswered now (Some w) = if is_over now w then Some (w.peer, wait_end now w) else None
 
 abbrev pub still_awaited : ℕ → Option Awaited → Option Awaited
 still_awaited now None = None
-still_awaited now (Some w) = if is_mute now w then None else Some w
+still_awaited now (Some w) = if is_over now w then None else Some w
 
--- a peer that is mute isn't waited for
+-- a peer for which the wait is over isn't waited for
 abbrev pub lapsed : ℕ → AskingState → AskingState
 lapsed now a = record a { awaited = still_awaited now a.awaited }
 

@@ -1,4 +1,5 @@
 pub mod AskingRuns
+pub mod Bringing
 pub mod CatchingUp
 pub mod Defining
 pub mod Differences
@@ -7,9 +8,11 @@ pub mod Levels
 pub mod Needs
 pub mod NumberTimes
 pub mod Onces
+pub mod Processes
 pub mod Reaching
 pub mod Renewals
 pub mod Rests
 pub mod SessionEnds
+pub mod Standstills
 pub mod Ticks
 pub mod WriteTimes

@@ -3,13 +3,16 @@
 ghost use Rattle.std.specs.Prelude.{◌≡◌, ◌==◌, ◌||◌, not, IfOk, None, Some, replicate, slice_get};
 ghost use Rattle.std.specs.List.{list_all, list_any};
 ghost use Rattle.node_core.specs.declared.asking.Standing.TheVariants as standings;
-ghost use Rattle.node_core.specs.CatchingUp.{are_partial, asked_if_next, brought, can_be_asked, changed, finished, heard, is_asked, is_away, is_first, is_mute, is_next, is_no_later, is_partial, is_rested, is_settled, lapsed, owes, partly_finished, settled, stood, unanswered};
+ghost use Rattle.node_core.specs.CatchingUp.{are_partial, asked_if_next, brought, can_be_asked, changed, finished, heard, is_asked, is_away, is_done_by, is_first, is_mute, is_next, is_no_later, is_over, is_partial, is_rested, is_settled, lapsed, owes, partly_finished, settled, stood, unanswered, wait_end, waited_anew};
 
 use std::alloc::{AllocError, Global};
 use std::marker::Model;
 
 /// How long a peer that was asked is waited for, from then on or from the last row that it brought, in milliseconds.
 pub const PATIENCE: u64 = 5_000;
+
+/// How long a peer that was asked is waited for in all, whatever it brings, in milliseconds.
+const LONGEST: u64 = 600_000;
 
 /// How long after its start a node waits for sessions with all peers, in milliseconds.
 pub const ALONE: u64 = 5_000;
@@ -66,16 +69,27 @@ pub struct Candidate {
 pub struct Awaited {
     /// Its index.
     peer: usize,
+    /// When it was asked, in milliseconds since the node began.
+    asked_at: u64,
     /// When it was asked, or last brought a row, in milliseconds since the node began.
     since: u64,
+}
+
+/// Why a peer that was asked isn't waited for any longer.
+#[derive(Clone, Copy, Debug, PartialEq, Eq)]
+pub enum WaitEnd {
+    /// It has brought neither a row nor its end for `PATIENCE`.
+    Mute,
+    /// It was asked `LONGEST` ago, and goes on bringing rows.
+    Endless,
 }
 
 /// How far a node is with asking its peers for all rows.
 ///
 /// It asks one peer at a time, and of those that can be asked the one that was asked longest ago. It waits for a peer until that
-/// ends its resync, loses its session, or has brought no row for `PATIENCE`; an end that comes later counts all the same. A peer
-/// that didn't answer, or only in part, can be asked again a minute after it was asked or last brought a row, or on its next session. The node is up to date once a
-/// peer ends its resync as finished, or all that have a session have ended it as partial.
+/// ends its resync, loses its session, or has brought no row for `PATIENCE`, and for `LONGEST` in all; an end that comes later counts
+/// all the same. A peer that didn't answer, or only in part, can be asked again a minute after it was asked or last brought a row, or on
+/// its next session. The node is up to date once a peer ends its resync as finished, or all that have a session have ended it as partial.
 #[derive(Drop)]
 pub struct Asking {
     up_to_date: bool,
@@ -252,6 +266,24 @@ impl Awaited {
     {
         now.saturating_sub(self.since) >= PATIENCE
     }
+
+    /// Returns whether the peer has brought neither a row nor its end for `PATIENCE`, or was asked `LONGEST` ago.
+    fn is_over(self, now: u64) -> bool
+        ensures { result ≡ is_over now self }
+    {
+        self.is_mute(now) || now.saturating_sub(self.asked_at) >= LONGEST
+    }
+
+    /// Returns why the wait is over, if it is.
+    fn wait_end(self, now: u64) -> WaitEnd
+        ensures { result ≡ wait_end now self }
+    {
+        if self.is_mute(now) {
+            WaitEnd::Mute
+        } else {
+            WaitEnd::Endless
+        }
+    }
 }
 
 impl Asking {
@@ -320,7 +352,11 @@ impl Asking {
         if !self.is_next(peer, now) {
             return false;
         }
-        self.awaited = Some(Awaited { peer, since: now });
+        self.awaited = Some(Awaited {
+            peer,
+            asked_at: now,
+            since: now,
+        });
         set_asked(self.peers.as_mut_slice(), peer, now);
         true
     }
@@ -331,20 +367,28 @@ impl Asking {
     {
         if let Some(awaited) = self.awaited {
             if awaited.peer == peer {
-                self.awaited = Some(Awaited { peer, since: now });
+                self.awaited = Some(Awaited {
+                    since: now,
+                    ..awaited
+                });
             }
         }
         set_brought(self.peers.as_mut_slice(), peer, now);
     }
 
-    /// Notes that the peer with this index has ended its resync as finished, which counts if it was asked.
-    pub fn finish(&mut self, peer: usize)
-        ensures { self.new ≡ finished peer self.old }
+    /// Notes that the peer with this index has ended its resync as finished, which counts if it was asked. Returns whether the node
+    /// becomes up to date by that.
+    pub fn finish(&mut self, peer: usize) -> bool
+        ensures done { result ≡ is_done_by peer self.old }
+        ensures finished { self.new ≡ finished peer self.old }
     {
-        if owes(self.peers.as_slice(), peer) {
-            self.up_to_date = true;
-            self.awaited = None;
+        if !owes(self.peers.as_slice(), peer) {
+            return false;
         }
+        let done = !self.up_to_date;
+        self.up_to_date = true;
+        self.awaited = None;
+        done
     }
 
     /// Notes that the peer with this index has ended its resync as partial, which counts if it was asked.
@@ -356,15 +400,29 @@ impl Asking {
         }
     }
 
-    /// Ends the wait for a peer that has brought neither a row nor its end for `PATIENCE`, and returns its index.
-    pub fn lapse(&mut self, now: u64) -> Option<usize>
+    /// Notes that the node was held up until `now`, so that the peer that is waited for has its `PATIENCE` anew: what it brought meanwhile
+    /// isn't read yet.
+    pub fn wait_anew(&mut self, now: u64)
+        ensures { self.new ≡ waited_anew now self.old }
+    {
+        if let Some(awaited) = self.awaited {
+            self.awaited = Some(Awaited {
+                since: now,
+                ..awaited
+            });
+        }
+    }
+
+    /// Ends the wait for a peer that has brought neither a row nor its end for `PATIENCE`, or was asked `LONGEST` ago, and returns its index,
+    /// and which of the two it is.
+    pub fn lapse(&mut self, now: u64) -> Option<(usize, WaitEnd)>
         ensures peer { result ≡ unanswered now self.old.awaited }
         ensures lapsed { self.new ≡ lapsed now self.old }
     {
         match self.awaited {
-            Some(awaited) if awaited.is_mute(now) => {
+            Some(awaited) if awaited.is_over(now) => {
                 self.awaited = None;
-                Some(awaited.peer)
+                Some((awaited.peer, awaited.wait_end(now)))
             }
             _ => None,
         }

@@ -4,11 +4,11 @@ ghost use Rattle.std.specs.Prelude.{◌≡◌, ◌≤◌, ◌<◌, ◌+◌, ◌*
 ghost use Rattle.std.specs.List.{list_any};
 ghost use Rattle.node_core.specs.declared.asking.Awaited.{Awaited};
 ghost use Rattle.node_core.specs.CatchingUp.{AskingState, heard, is_next, lapsed, owes};
-ghost use Rattle.node_core.specs.AskingRuns.{Answer, CanBeAsked, HasSession, Happening, Asks, Finished, IsAwaited, Passes, Rounds, after, after_all, is_from, is_heard_before, may_end};
+ghost use Rattle.node_core.specs.AskingRuns.{Answer, CanBeAsked, HasSession, Happening, Asks, Finished, IsAwaited, Passes, Rounds, after, after_all, is_asking, is_from, is_heard_before, may_end};
 
 /// No two peers are asked at once. While a peer is waited for, no peer is next to be asked; and a peer that is waited for is so
-/// until it ends its resync as partial, loses its session or begins another, or is mute for 5 s, unless some peer ends its resync
-/// as finished or all have taught what they have, after which the node is up to date.
+/// until it ends its resync as partial, loses its session or begins another, is mute for 5 s, or was asked ten minutes ago, unless
+/// some peer ends its resync as finished or all have taught what they have, after which the node is up to date.
 pub fn one_at_a_time()
     ensures next { (a : AskingState) (w : Awaited) (peer now : ℕ) → a.awaited ≡ Some w → is_next peer now a ≡ false }
     ensures waits { (a : AskingState) (w : Awaited) (h : Happening) → a.awaited ≡ Some w → may_end a w h ≡ false → IsAwaited w.peer (after h a) }
@@ -21,9 +21,19 @@ pub fn a_mute_peer_holds_nobody_up()
         IsAwaited peer (after (Passes now) (after_all hs (after (Asks peer asked) a))) → ⊥ }
 {}
 
-/// A peer that owes an answer and brings a row isn't asked for a minute from then on, whoever else is, so what it teaches doesn't begin anew.
+/// No peer is waited for for more than ten minutes: if it was asked, then whatever it brings, and whatever else happens, it isn't
+/// waited for once the time is noted ten minutes later, unless it is asked again meanwhile.
+pub fn every_wait_ends()
+    ensures { (a : AskingState) (peer asked now : ℕ) (hs : List Happening) → is_next peer asked a ≡ true → list_any (is_asking peer) hs ≡ false → asked + 600000 ≤ now →
+        IsAwaited peer (after (Passes now) (after_all hs (after (Asks peer asked) a))) → ⊥ }
+{}
+
+/// A peer that is waited for and brings a row is waited for for 5 s from then on, within the ten minutes from when it was asked. One
+/// that owes an answer and brings a row isn't asked for a minute from then on, whoever else is and whenever it was asked, so what it
+/// teaches doesn't begin anew.
 pub fn whoever_brings_rows_goes_on()
-    ensures { (a : AskingState) (peer now later : ℕ) → owes (slice_get a.peers peer) ≡ true → later < now + 60000 → is_next peer later (heard peer now a) ≡ false }
+    ensures waits { (a : AskingState) (w : Awaited) (now later : ℕ) → a.awaited ≡ Some w → later < now + 5000 → later < w.asked_at + 600000 → IsAwaited w.peer (lapsed later (heard w.peer now a)) }
+    ensures asks { (a : AskingState) (peer now later : ℕ) → owes (slice_get a.peers peer) ≡ true → later < now + 60000 → is_next peer later (heard peer now a) ≡ false }
 {}
 
 /// A node that has a peer that ends its resync as finished if it is asked comes to be up to date. From any state, once a minute has

@@ -1,6 +1,9 @@
 //! What happens to a node, as its log says it.
 
+use crate::asking::WaitEnd;
 use crate::differences::Difference;
+use crate::processes::Process;
+use crate::reaching::NoSession;
 use crate::session_ends::SessionEnd;
 use table_types::Version;
 
@@ -33,6 +36,9 @@ pub enum Event<'a> {
         refusal: HelloRefusal,
         /// The name by which the node calls itself.
         node: &'a [u8],
+        /// What the hello says instead of what it should: the version, or the name by which it calls this node; empty if neither is
+        /// wrong, or nothing is said.
+        said: &'a [u8],
     },
     /// Something happens with a peer.
     OfPeer {
@@ -42,6 +48,32 @@ pub enum Event<'a> {
         address: &'a [u8],
         /// What it is.
         event: PeerEvent<'a>,
+    },
+    /// A peer's hello comes to another port than that of the peers.
+    WrongPort {
+        /// The port to which it comes.
+        port: Port,
+        /// Whose hello it is, if that is known.
+        sender: Option<Sender<'a>>,
+        /// The far side's address.
+        address: &'a [u8],
+        /// The address of the port of the peers.
+        listen: &'a [u8],
+    },
+    /// The node becomes up to date.
+    UpToDate {
+        /// The name of the peer that has taught it all rows, if one has.
+        teacher: Option<&'a [u8]>,
+    },
+    /// The node itself was held up.
+    HeldUp {
+        /// For how long, in milliseconds.
+        milliseconds: u64,
+    },
+    /// Something in the configuration is legal, and surely meant otherwise.
+    ConfigurationWarning {
+        /// The line in which `run --check` says it.
+        warning: &'a [u8],
     },
     /// A table gets new numbers, for which all sessions end.
     Renewed {
@@ -115,6 +147,13 @@ pub enum PeerEvent<'a> {
         /// Why, in the system's words.
         reason: &'a [u8],
     },
+    /// A connection with it came to no session.
+    NoSession {
+        /// Why.
+        why: NoSession,
+        /// What is known of the cause besides, in words that stand behind "ended"; empty if nothing is.
+        cause: &'a [u8],
+    },
     /// It refuses the node's hello.
     Refused {
         /// The status that it answers.
@@ -128,11 +167,16 @@ pub enum PeerEvent<'a> {
         accepted: bool,
         /// The version that the session speaks.
         version: Version,
+        /// What the connection says of the peer's process.
+        process: Process,
     },
     /// The node asks it for all rows.
     Asked,
     /// It was asked, and isn't waited for any longer.
-    Unanswered,
+    Unanswered {
+        /// Why.
+        why: WaitEnd,
+    },
     /// A resync is over.
     ResyncEnded {
         /// Whether the node was the teacher.
@@ -177,12 +221,12 @@ pub enum PeerEvent<'a> {
         /// The fault's name.
         fault: &'a [u8],
     },
-    /// The connection with it is over.
+    /// A session with it is over.
     Ended {
-        /// Whether a session had begun on it.
-        begun: bool,
         /// Why.
         end: SessionEnd,
+        /// What is known of the cause besides, in words that stand behind "ended"; empty if nothing is.
+        cause: &'a [u8],
     },
 }
 

@@ -5,6 +5,7 @@
 
 mod asking;
 mod asking_laws;
+mod brought;
 mod build;
 mod defining;
 mod difference_laws;
@@ -17,21 +18,24 @@ mod needs;
 mod number_laws;
 mod number_times;
 mod once;
+mod processes;
 mod reaching;
 mod renewals;
 mod rests;
 #[cfg(test)]
 mod scenarios;
 mod session_ends;
+mod standstills;
 mod tick_laws;
 mod ticks;
 mod write_times;
 
-pub use asking::{ALONE, Asking, PATIENCE};
+pub use asking::{ALONE, Asking, PATIENCE, WaitEnd};
 pub use asking_laws::{
-    a_mute_peer_holds_nobody_up, a_node_comes_to_be_up_to_date, one_at_a_time,
+    a_mute_peer_holds_nobody_up, a_node_comes_to_be_up_to_date, every_wait_ends, one_at_a_time,
     whoever_brings_rows_goes_on,
 };
+pub use brought::Brought;
 pub use build::{KIT, VERSION};
 pub use defining::Defining;
 pub use difference_laws::what_differs_is_not_learned;
@@ -44,10 +48,12 @@ pub use needs::{Need, push_lacking, reason_of};
 pub use number_laws::an_age_is_never_too_great;
 pub use number_times::NumberTimes;
 pub use once::{Once, SaidNames};
-pub use reaching::{Failure, Reaching};
+pub use processes::{LastPid, Process};
+pub use reaching::{Failure, NoSession, Reaching};
 pub use renewals::{Renewal, Renewing};
 pub use rests::rests_until;
 pub use session_ends::SessionEnd;
+pub use standstills::LastLook;
 pub use tick_laws::{heartbeats_come, ticks_come};
 pub use ticks::{Ticks, Traffic};
 pub use write_times::{WRITE_TIME, WriteTime};

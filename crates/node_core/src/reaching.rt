@@ -1,11 +1,27 @@
 //! What became of the attempts to have a session with a peer.
 
 ghost use Rattle.std.specs.Prelude.{◌≡◌, ◌≢◌, ◌↔◌, IsTrue, None, Some, not, true};
-ghost use Rattle.node_core.specs.Reaching.{failed, refused, untried};
+ghost use Rattle.node_core.specs.Reaching.{error_after, error_of, failed, refused, untried};
 ghost use Rattle.node_core.specs.declared.last_errors.LastError.TheVariants as errors;
 
 use crate::last_errors::LastError;
-use crate::session_ends::SessionEnd;
+
+/// Why a connection came to no session.
+#[derive(Clone, Copy, Debug, PartialEq, Eq)]
+pub enum NoSession {
+    /// The far side closed it before it answered the node's hello.
+    Closed,
+    /// The far side sent nothing for too long.
+    Silent,
+    /// What the far side sent is no answer of the protocol.
+    Strange,
+    /// A read or a write failed before the far side answered.
+    Device,
+    /// It ended as soon as the peer had taken the node's hello.
+    AtOnce,
+    /// The node lacked memory or a thread for it.
+    Lacking,
+}
 
 /// Why an attempt of the node to have a session with a peer failed.
 #[derive(Clone, Copy, Debug, PartialEq, Eq)]
@@ -14,8 +30,37 @@ pub enum Failure {
     Unreachable(Option<i32>),
     /// The peer refused the node's hello with this status.
     Refused(u16),
-    /// The connection ended before the peer answered the node's hello.
-    Ended(SessionEnd),
+    /// The connection came to no session.
+    NoSession(NoSession),
+}
+
+impl NoSession {
+    /// Returns why there is no session after a connection that came to none for this reason.
+    fn error(self) -> LastError
+        ensures { result ≡ error_of self }
+    {
+        match self {
+            NoSession::Lacking => LastError::Lacking,
+            NoSession::Closed
+            | NoSession::Silent
+            | NoSession::Strange
+            | NoSession::Device
+            | NoSession::AtOnce => LastError::NoAnswer,
+        }
+    }
+}
+
+impl Failure {
+    /// Returns why there is no session after an attempt that failed so.
+    fn error(self) -> LastError
+        ensures { result ≡ error_after self }
+    {
+        match self {
+            Failure::Unreachable(_) => LastError::Unreachable,
+            Failure::Refused(status) => LastError::Refused(status),
+            Failure::NoSession(cause) => cause.error(),
+        }
+    }
 }
 
 /// What became of the attempts to have a session with a peer since the last one began, as far as the log says it: each once, until it
@@ -62,11 +107,7 @@ impl Reaching {
     {
         let otherwise = self.failure != Some(failure);
         self.failure = Some(failure);
-        match failure {
-            Failure::Unreachable(_) => self.last_error = Some(LastError::Unreachable),
-            Failure::Refused(status) => self.last_error = Some(LastError::Refused(status)),
-            Failure::Ended(_) => {}
-        }
+        self.last_error = Some(failure.error());
         otherwise
     }
 

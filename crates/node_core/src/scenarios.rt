@@ -1,7 +1,7 @@
 //! What a node does whose peers answer, are mute, go and come back; when the ticks of a session come; and since when numbers are
 //! assigned.
 
-use crate::asking::Asking;
+use crate::asking::{Asking, WaitEnd};
 use crate::number_times::NumberTimes;
 use crate::ticks::{Ticks, Traffic};
 use std::alloc::{AllocError, Global};
@@ -14,7 +14,7 @@ enum Call {
     Hears(usize, u64),
     Finishes(usize),
     FinishesPartly(usize),
-    Lapses(u64, Option<usize>),
+    Lapses(u64, Option<(usize, WaitEnd)>),
     Settles(u64, bool),
     IsUpToDate(bool),
 }
@@ -27,7 +27,7 @@ static LATE: [Call; 11] = [
     Call::Asks(1, 20, false),
     Call::Hears(0, 3_000),
     Call::Lapses(7_999, None),
-    Call::Lapses(8_000, Some(0)),
+    Call::Lapses(8_000, Some((0, WaitEnd::Mute))),
     Call::Asks(0, 8_000, false),
     Call::Asks(1, 8_001, true),
     Call::Finishes(0),
@@ -52,7 +52,7 @@ static AGAIN: [Call; 13] = [
     Call::Asks(1, 100, true),
     Call::FinishesPartly(1),
     Call::Asks(0, 200, true),
-    Call::Lapses(5_200, Some(0)),
+    Call::Lapses(5_200, Some((0, WaitEnd::Mute))),
     Call::Settles(6_000, false),
     Call::Asks(1, 60_099, false),
     Call::Asks(0, 60_200, false),
@@ -66,11 +66,26 @@ static AGAIN: [Call; 13] = [
 static GOES_ON: [Call; 9] = [
     Call::Begins(0),
     Call::Asks(0, 0, true),
-    Call::Lapses(5_000, Some(0)),
+    Call::Lapses(5_000, Some((0, WaitEnd::Mute))),
     Call::Hears(0, 30_000),
     Call::Hears(0, 59_000),
     Call::Asks(0, 118_999, false),
     Call::Asks(0, 119_000, true),
+    Call::Finishes(0),
+    Call::IsUpToDate(true),
+];
+
+/// A peer that brings rows without a pause isn't waited for for more than ten minutes, and its late end counts all the same.
+static ENDLESS: [Call; 11] = [
+    Call::Begins(0),
+    Call::Begins(1),
+    Call::Asks(0, 10, true),
+    Call::Hears(0, 600_000),
+    Call::Lapses(600_009, None),
+    Call::Asks(1, 600_009, false),
+    Call::Lapses(600_010, Some((0, WaitEnd::Endless))),
+    Call::Hears(0, 600_011),
+    Call::Asks(1, 600_011, true),
     Call::Finishes(0),
     Call::IsUpToDate(true),
 ];
@@ -101,6 +116,15 @@ static PARTIAL: [Call; 9] = [
     Call::IsUpToDate(true),
 ];
 
+/// Returns whether the same wait is over, for the same reason, or none is.
+fn is_same_lapse(lapse: Option<(usize, WaitEnd)>, wanted: Option<(usize, WaitEnd)>) -> bool {
+    match (lapse, wanted) {
+        (Some((peer, end)), Some((other, wanted))) => peer == other && end == wanted,
+        (None, None) => true,
+        (Some(_), None) | (None, Some(_)) => false,
+    }
+}
+
 /// Returns whether a call returns what it should.
 fn is_right(asking: &mut Asking, call: &Call) -> bool {
     match call {
@@ -108,9 +132,11 @@ fn is_right(asking: &mut Asking, call: &Call) -> bool {
         Call::Ends(peer) => asking.end(*peer),
         Call::Asks(peer, now, asks) => return asking.ask(*peer, *now) == *asks,
         Call::Hears(peer, now) => asking.hear(*peer, *now),
-        Call::Finishes(peer) => asking.finish(*peer),
+        Call::Finishes(peer) => {
+            let _done = asking.finish(*peer);
+        }
         Call::FinishesPartly(peer) => asking.finish_partly(*peer),
-        Call::Lapses(now, peer) => return asking.lapse(*now) == *peer,
+        Call::Lapses(now, peer) => return is_same_lapse(asking.lapse(*now), *peer),
         Call::Settles(now, settles) => return asking.settle(*now) == *settles,
         Call::IsUpToDate(is) => return asking.is_up_to_date() == *is,
     }
@@ -134,6 +160,7 @@ fn peers_are_asked(rt: HostRuntime) {
     assert_eq!(rt; first_wrong(rt.alloc(), 1, &UNASKED), None);
     assert_eq!(rt; first_wrong(rt.alloc(), 2, &AGAIN), None);
     assert_eq!(rt; first_wrong(rt.alloc(), 1, &GOES_ON), None);
+    assert_eq!(rt; first_wrong(rt.alloc(), 2, &ENDLESS), None);
     assert_eq!(rt; first_wrong(rt.alloc(), 2, &BROKEN), None);
     assert_eq!(rt; first_wrong(rt.alloc(), 2, &PARTIAL), None);
     assert_eq!(rt; first_wrong(rt.alloc(), 0, &[Call::IsUpToDate(true)]), None);

@@ -5,6 +5,8 @@ use Rattle.std.specs.List.{list_all}
 use Rattle.table_types.specs.declared.version.Version.{Version}
 use Rattle.table_types.specs.declared.version.Version.TheVariants as versions
 use Rattle.node_core.specs.SessionEnds.{end_name}
+use Rattle.node_core.specs.declared.asking.WaitEnd.{WaitEnd}
+use Rattle.node_core.specs.declared.asking.WaitEnd.TheVariants as waits
 use Rattle.node_core.specs.declared.differences.Difference.{Difference}
 use Rattle.node_core.specs.declared.differences.Difference.TheVariants as differences
 use Rattle.node_core.specs.declared.events.Event.{Event}
@@ -20,10 +22,12 @@ use Rattle.node_core.specs.declared.events.ResyncEnd.{ResyncEnd}
 use Rattle.node_core.specs.declared.events.ResyncEnd.TheVariants as resyncs
 use Rattle.node_core.specs.declared.events.Sender.{Sender}
 use Rattle.node_core.specs.declared.events.Sender.TheVariants as senders
+use Rattle.node_core.specs.declared.processes.Process.{Process}
+use Rattle.node_core.specs.declared.processes.Process.TheVariants as processes
 use Rattle.node_core.specs.declared.session_ends.SessionEnd.{SessionEnd}
 use Rattle.node_core.specs.declared.session_ends.SessionEnd.TheVariants as ends
 use Rattle.node_log.specs.Events.{event_name, peer_event_name}
-use Rattle.node_log.specs.Keys.{address_field, keys_text, name_of, number_field, peer_field, peer_fields, port_name, resync_name, sender_field, session_fields, status_of, strange_field, teacher_or_learner, what_name, word_field}
+use Rattle.node_log.specs.Keys.{address_field, keys_text, name_of, number_field, peer_field, peer_fields, port_name, process_field, resync_name, role_name, said_field, sender_field, session_fields, status_of, strange_field, strange_if, teacher_or_learner, version_name, wait_name, what_name, word_field}
 use Rattle.node_log.specs.Lines.{event_text}
 use Rattle.node_log.specs.Ranges.{are_bytes, is_event, numbers_of, peer_numbers, peer_texts, sender_texts, texts_if, texts_of}
 use Rattle.node_log.proofs.Leads.{IsLead, both, leads, number_value, strange_value, word_value}
@@ -77,6 +81,17 @@ sender_lead None texts = empty
 sender_lead (Some (senders.Peer name)) texts = word_lead (codes " peer=") name.now peer_key (first _ _ texts)
 sender_lead (Some (senders.Stranger name)) texts = strange_lead (codes " peer=") name.now peer_key (first _ _ texts)
 
+strange_if_lead : (key name : List ℕ) → IsLead key → are_bytes name ≡ true → IsLead (strange_if key name)
+strange_if_lead key [] is bytes = empty
+strange_if_lead key (byte ∷ name) is bytes = strange_lead key (byte ∷ name) is bytes
+
+said_lead : (refusal : HelloRefusal) (said : List ℕ) → are_bytes said ≡ true → IsLead (said_field refusal said)
+said_lead refusals.Garbled said bytes = empty
+said_lead refusals.Version said bytes = strange_if_lead (codes " protocol=") said (record { calm = refl; printable = refl }) bytes
+said_lead refusals.OtherNode said bytes = strange_if_lead (codes " called=") said (record { calm = refl; printable = refl }) bytes
+said_lead refusals.Stranger said bytes = empty
+said_lead refusals.Elsewhere said bytes = empty
+
 peer_lead : (peer : Option (List ℕ)) → list_all are_bytes (texts_if peer) ≡ true → IsLead (peer_field peer)
 peer_lead None texts = empty
 peer_lead (Some name) texts = word_lead (codes " peer=") name peer_key (first _ _ texts)
@@ -84,13 +99,26 @@ peer_lead (Some name) texts = word_lead (codes " peer=") name peer_key (first _ 
 count_lead : (count : ℕ) → nat_lt count (2 ^ 64) ≡ true → IsLead (number_field (codes " count=") count)
 count_lead count small = number_lead (codes " count=") count (record { calm = refl; printable = refl }) small
 
+ms_lead : (milliseconds : ℕ) → nat_lt milliseconds (2 ^ 64) ≡ true → IsLead (number_field (codes " ms=") milliseconds)
+ms_lead milliseconds small = number_lead (codes " ms=") milliseconds (record { calm = refl; printable = refl }) small
+
 -- ---- of a peer
 
-session_lead : (accepted : Bool) (version : Version) → IsLead (session_fields accepted version)
-session_lead true versions.V20 = record { calm = refl; printable = refl }
-session_lead true versions.V21 = record { calm = refl; printable = refl }
-session_lead false versions.V20 = record { calm = refl; printable = refl }
-session_lead false versions.V21 = record { calm = refl; printable = refl }
+role_lead : (accepted : Bool) → IsLead (word_field (codes " role=") (role_name accepted))
+role_lead true = record { calm = refl; printable = refl }
+role_lead false = record { calm = refl; printable = refl }
+
+version_lead : (version : Version) → IsLead (word_field (codes " protocol=") (version_name version))
+version_lead versions.V20 = record { calm = refl; printable = refl }
+version_lead versions.V21 = record { calm = refl; printable = refl }
+
+process_lead : (process : Process) → IsLead (process_field process)
+process_lead processes.Unknown = empty
+process_lead processes.New = record { calm = refl; printable = refl }
+process_lead processes.Same = record { calm = refl; printable = refl }
+
+session_lead : (accepted : Bool) (version : Version) (process : Process) → IsLead (session_fields accepted version process)
+session_lead accepted version process = leads _ _ (role_lead accepted) (leads _ _ (version_lead version) (process_lead process))
 
 part_lead : (taught : Bool) → IsLead (word_field (codes " role=") (teacher_or_learner taught))
 part_lead true = record { calm = refl; printable = refl }
@@ -115,27 +143,32 @@ what_lead differences.Length = record { calm = refl; printable = refl }
 what_lead differences.Types = record { calm = refl; printable = refl }
 what_lead differences.Period = record { calm = refl; printable = refl }
 
+why_lead : (why : WaitEnd) → IsLead (word_field (codes " why=") (wait_name why))
+why_lead waits.Mute = record { calm = refl; printable = refl }
+why_lead waits.Endless = record { calm = refl; printable = refl }
+
 abbrev are_small : List ℕ → Bool
 are_small ns = list_all (λ n. nat_lt n (2 ^ 64)) ns
 
 fields_lead : (event : PeerEvent) → list_all are_bytes (peer_texts event) ≡ true → are_small (peer_numbers event) ≡ true → IsLead (peer_fields event)
 fields_lead peers.Connecting texts numbers = empty
 fields_lead (peers.Unreachable reason) texts numbers = empty
+fields_lead (peers.NoSession why cause) texts numbers = empty
 fields_lead (peers.Refused status node) texts numbers = number_lead (codes " status=") status (record { calm = refl; printable = refl }) (first _ _ numbers)
-fields_lead (peers.Connected accepted version) texts numbers = session_lead accepted version
+fields_lead (peers.Connected accepted version process) texts numbers = session_lead accepted version process
 fields_lead peers.Asked texts numbers = empty
-fields_lead peers.Unanswered texts numbers = empty
+fields_lead (peers.Unanswered why) texts numbers = why_lead why
 fields_lead (peers.ResyncEnded taught end rows milliseconds) texts numbers =
     let small = both (nat_lt rows (2 ^ 64)) (nat_lt milliseconds (2 ^ 64) && true) numbers in
     leads _ _ (part_lead taught) (leads _ _ (resync_lead end) (leads _ _ (number_lead (codes " rows=") rows (record { calm = refl; printable = refl }) small.0)
-    (number_lead (codes " ms=") milliseconds (record { calm = refl; printable = refl }) (first _ _ small.1))))
+    (ms_lead milliseconds (first _ _ small.1))))
 fields_lead (peers.Mismatch table difference theirs ours) texts numbers = leads _ _ (word_lead (codes " table=") table.now table_key (first _ _ texts)) (what_lead difference)
 fields_lead (peers.Unshared table) texts numbers = strange_lead (codes " table=") table.now table_key (first _ _ texts)
 fields_lead (peers.Undefined table) texts numbers = word_lead (codes " table=") table.now table_key (first _ _ texts)
 fields_lead (peers.Left table) texts numbers = word_lead (codes " table=") table.now table_key (first _ _ texts)
 fields_lead peers.PassedOver texts numbers = empty
 fields_lead (peers.Fault fault) texts numbers = word_lead (codes " fault=") fault.now (record { calm = refl; printable = refl }) (first _ _ texts)
-fields_lead (peers.Ended begun end) texts numbers = end_lead end
+fields_lead (peers.Ended end cause) texts numbers = end_lead end
 
 -- ---- of an event
 
@@ -147,13 +180,20 @@ keys_lead (events.Start version configuration node) texts numbers =
     (leads _ _ (word_lead (codes " config=") configuration.now (record { calm = refl; printable = refl }) two.0)
     (word_lead (codes " node=") node.now (record { calm = refl; printable = refl }) (first _ _ two.1)))
 keys_lead (events.Listening port address) texts numbers = leads _ _ (port_lead port) (address_lead address.now (first _ _ texts))
-keys_lead (events.HelloRefused sender address refusal node) texts numbers =
-    let one = both (are_bytes address.now) (list_all are_bytes (sender_texts sender)) texts in
-    leads _ _ (status_lead refusal) (leads _ _ (sender_lead sender one.1) (address_lead address.now one.0))
+keys_lead (events.HelloRefused sender address refusal node said) texts numbers =
+    let one = both (are_bytes address.now) (are_bytes said.now && list_all are_bytes (sender_texts sender)) texts in
+    let two = both (are_bytes said.now) (list_all are_bytes (sender_texts sender)) one.1 in
+    leads _ _ (status_lead refusal) (leads _ _ (sender_lead sender two.1) (leads _ _ (address_lead address.now one.0) (said_lead refusal said.now two.0)))
 keys_lead (events.OfPeer name address event) texts numbers =
     let one = both (are_bytes name.now) (are_bytes address.now && list_all are_bytes (peer_texts event)) texts in
     let two = both (are_bytes address.now) (list_all are_bytes (peer_texts event)) one.1 in
     leads _ _ (word_lead (codes " peer=") name.now peer_key one.0) (leads _ _ (address_lead address.now two.0) (fields_lead event two.1 numbers))
+keys_lead (events.WrongPort port sender address listen) texts numbers =
+    let one = both (are_bytes address.now) (list_all are_bytes (sender_texts sender)) texts in
+    leads _ _ (port_lead port) (leads _ _ (sender_lead sender one.1) (address_lead address.now one.0))
+keys_lead (events.UpToDate teacher) texts numbers = peer_lead (name_of teacher) texts
+keys_lead (events.HeldUp milliseconds) texts numbers = ms_lead milliseconds (first _ _ numbers)
+keys_lead (events.ConfigurationWarning warning) texts numbers = empty
 keys_lead (events.Renewed table) texts numbers = word_lead (codes " table=") table.now table_key (first _ _ texts)
 keys_lead (events.Omitted peer (omissions.Repeated event) count) texts numbers =
     let one = both (are_bytes event.now) (list_all are_bytes (texts_if (name_of peer))) texts in
@@ -166,10 +206,11 @@ keys_lead events.Stop texts numbers = empty
 peer_name_lead : (event : PeerEvent) → IsLead (peer_event_name event)
 peer_name_lead peers.Connecting = record { calm = refl; printable = refl }
 peer_name_lead (peers.Unreachable reason) = record { calm = refl; printable = refl }
+peer_name_lead (peers.NoSession why cause) = record { calm = refl; printable = refl }
 peer_name_lead (peers.Refused status node) = record { calm = refl; printable = refl }
-peer_name_lead (peers.Connected accepted version) = record { calm = refl; printable = refl }
+peer_name_lead (peers.Connected accepted version process) = record { calm = refl; printable = refl }
 peer_name_lead peers.Asked = record { calm = refl; printable = refl }
-peer_name_lead peers.Unanswered = record { calm = refl; printable = refl }
+peer_name_lead (peers.Unanswered why) = record { calm = refl; printable = refl }
 peer_name_lead (peers.ResyncEnded taught end rows milliseconds) = record { calm = refl; printable = refl }
 peer_name_lead (peers.Mismatch table difference theirs ours) = record { calm = refl; printable = refl }
 peer_name_lead (peers.Unshared table) = record { calm = refl; printable = refl }
@@ -177,13 +218,17 @@ peer_name_lead (peers.Undefined table) = record { calm = refl; printable = refl 
 peer_name_lead (peers.Left table) = record { calm = refl; printable = refl }
 peer_name_lead peers.PassedOver = record { calm = refl; printable = refl }
 peer_name_lead (peers.Fault fault) = record { calm = refl; printable = refl }
-peer_name_lead (peers.Ended begun end) = record { calm = refl; printable = refl }
+peer_name_lead (peers.Ended end cause) = record { calm = refl; printable = refl }
 
 name_lead : (event : Event) → IsLead (event_name event)
 name_lead (events.Start version configuration node) = record { calm = refl; printable = refl }
 name_lead (events.Listening port address) = record { calm = refl; printable = refl }
-name_lead (events.HelloRefused sender address refusal node) = record { calm = refl; printable = refl }
+name_lead (events.HelloRefused sender address refusal node said) = record { calm = refl; printable = refl }
 name_lead (events.OfPeer name address event) = peer_name_lead event
+name_lead (events.WrongPort port sender address listen) = record { calm = refl; printable = refl }
+name_lead (events.UpToDate teacher) = record { calm = refl; printable = refl }
+name_lead (events.HeldUp milliseconds) = record { calm = refl; printable = refl }
+name_lead (events.ConfigurationWarning warning) = record { calm = refl; printable = refl }
 name_lead (events.Renewed table) = record { calm = refl; printable = refl }
 name_lead (events.Omitted peer cause count) = record { calm = refl; printable = refl }
 name_lead events.Stop = record { calm = refl; printable = refl }

@@ -5,4 +5,5 @@ mod Leads
 mod LineLaws
 mod SenderLaws
 mod Spacing
+mod Telling
 mod ValueLaws

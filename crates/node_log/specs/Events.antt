@@ -16,10 +16,11 @@ use Rattle.node_core.specs.declared.session_ends.SessionEnd.TheVariants as ends
 abbrev pub peer_event_name : PeerEvent → List ℕ
 peer_event_name peers.Connecting = codes "connecting"
 peer_event_name (peers.Unreachable reason) = codes "unreachable"
+peer_event_name (peers.NoSession why cause) = codes "unreachable"
 peer_event_name (peers.Refused status node) = codes "refused"
-peer_event_name (peers.Connected accepted version) = codes "connected"
+peer_event_name (peers.Connected accepted version process) = codes "connected"
 peer_event_name peers.Asked = codes "asked"
-peer_event_name peers.Unanswered = codes "unanswered"
+peer_event_name (peers.Unanswered why) = codes "unanswered"
 peer_event_name (peers.ResyncEnded taught end rows milliseconds) = codes "resync-ended"
 peer_event_name (peers.Mismatch table difference theirs ours) = codes "mismatch"
 peer_event_name (peers.Unshared table) = codes "unshared"
@@ -27,13 +28,17 @@ peer_event_name (peers.Undefined table) = codes "undefined"
 peer_event_name (peers.Left table) = codes "left"
 peer_event_name peers.PassedOver = codes "passed-over"
 peer_event_name (peers.Fault fault) = codes "fault"
-peer_event_name (peers.Ended begun end) = codes "ended"
+peer_event_name (peers.Ended end cause) = codes "ended"
 
 abbrev pub event_name : Event → List ℕ
 event_name (events.Start version configuration node) = codes "start"
 event_name (events.Listening port address) = codes "listening"
-event_name (events.HelloRefused sender address refusal node) = codes "hello-refused"
+event_name (events.HelloRefused sender address refusal node said) = codes "hello-refused"
 event_name (events.OfPeer name address event) = peer_event_name event
+event_name (events.WrongPort port sender address listen) = codes "wrong-port"
+event_name (events.UpToDate teacher) = codes "up-to-date"
+event_name (events.HeldUp milliseconds) = codes "held-up"
+event_name (events.ConfigurationWarning warning) = codes "configuration-warning"
 event_name (events.Renewed table) = codes "renewed"
 event_name (events.Omitted peer cause count) = codes "omitted"
 event_name events.Stop = codes "stop"
@@ -46,24 +51,26 @@ resync_level resyncs.Finished = levels.Info
 resync_level resyncs.Partial = levels.Info
 resync_level resyncs.Broken = levels.Warn
 
--- A session that the peer ended, or for another one, is as it should be.
+-- A session whose connection was closed or broke is as it should be: whether the peer comes back, another line says. One that its peer
+-- let hang, or spoilt, isn't.
 abbrev pub end_level : SessionEnd → Level
 end_level ends.End = levels.Info
 end_level ends.Replaced = levels.Info
+end_level ends.Device = levels.Info
 end_level ends.Silent = levels.Warn
 end_level ends.Fault = levels.Warn
-end_level ends.Device = levels.Warn
 end_level ends.Error = levels.Warn
 
 abbrev pub peer_event_level : PeerEvent → Level
 peer_event_level peers.Connecting = levels.Info
-peer_event_level (peers.Connected accepted version) = levels.Info
+peer_event_level (peers.Connected accepted version process) = levels.Info
 peer_event_level peers.Asked = levels.Info
 peer_event_level (peers.ResyncEnded taught end rows milliseconds) = resync_level end
-peer_event_level (peers.Ended begun end) = end_level end
+peer_event_level (peers.Ended end cause) = end_level end
 peer_event_level (peers.Unreachable reason) = levels.Warn
+peer_event_level (peers.NoSession why cause) = levels.Warn
 peer_event_level (peers.Refused status node) = levels.Warn
-peer_event_level peers.Unanswered = levels.Warn
+peer_event_level (peers.Unanswered why) = levels.Warn
 peer_event_level (peers.Mismatch table difference theirs ours) = levels.Warn
 peer_event_level (peers.Unshared table) = levels.Info
 peer_event_level (peers.Undefined table) = levels.Info
@@ -73,9 +80,13 @@ peer_event_level (peers.Fault fault) = levels.Warn
 
 abbrev pub level_of : Event → Level
 level_of (events.OfPeer name address event) = peer_event_level event
-level_of (events.HelloRefused sender address refusal node) = levels.Warn
+level_of (events.HelloRefused sender address refusal node said) = levels.Warn
+level_of (events.WrongPort port sender address listen) = levels.Warn
+level_of (events.HeldUp milliseconds) = levels.Warn
 level_of (events.Omitted peer cause count) = levels.Warn
+level_of (events.ConfigurationWarning warning) = levels.Warn
 level_of (events.Start version configuration node) = levels.Info
 level_of (events.Listening port address) = levels.Info
+level_of (events.UpToDate teacher) = levels.Info
 level_of (events.Renewed table) = levels.Info
 level_of events.Stop = levels.Info

@@ -5,6 +5,8 @@ use Rattle.std.specs.Fmt.{decimal}
 use Rattle.table_types.specs.declared.version.Version.{Version}
 use Rattle.table_types.specs.declared.version.Version.TheVariants as versions
 use Rattle.node_core.specs.SessionEnds.{end_name}
+use Rattle.node_core.specs.declared.asking.WaitEnd.{WaitEnd}
+use Rattle.node_core.specs.declared.asking.WaitEnd.TheVariants as waits
 use Rattle.node_core.specs.declared.differences.Difference.{Difference}
 use Rattle.node_core.specs.declared.differences.Difference.TheVariants as differences
 use Rattle.node_core.specs.declared.events.Event.{Event}
@@ -21,6 +23,8 @@ use Rattle.node_core.specs.declared.events.ResyncEnd.{ResyncEnd}
 use Rattle.node_core.specs.declared.events.ResyncEnd.TheVariants as resyncs
 use Rattle.node_core.specs.declared.events.Sender.{Sender}
 use Rattle.node_core.specs.declared.events.Sender.TheVariants as senders
+use Rattle.node_core.specs.declared.processes.Process.{Process}
+use Rattle.node_core.specs.declared.processes.Process.TheVariants as processes
 use Rattle.node_log.specs.Values.{strange_text, word_text}
 
 -- ---- words
@@ -55,6 +59,10 @@ what_name differences.Length = codes "length"
 what_name differences.Types = codes "types"
 what_name differences.Period = codes "period"
 
+abbrev pub wait_name : WaitEnd → List ℕ
+wait_name waits.Mute = codes "mute"
+wait_name waits.Endless = codes "endless"
+
 -- the status that answers a hello that is refused so (HAProxy, doc/peers-v2.0.txt)
 abbrev pub status_of : HelloRefusal → ℕ
 status_of refusals.Garbled = 501
@@ -72,6 +80,11 @@ word_field key word = key ++ word_text word
 -- a name that the configuration doesn't have
 abbrev pub strange_field : List ℕ → List ℕ → List ℕ
 strange_field key name = key ++ strange_text name
+
+-- such a name, if it is known
+abbrev pub strange_if : List ℕ → List ℕ → List ℕ
+strange_if key [] = []
+strange_if key (byte ∷ bytes) = strange_field key (byte ∷ bytes)
 
 abbrev pub number_field : List ℕ → ℕ → List ℕ
 number_field key number = key ++ decimal number
@@ -96,10 +109,22 @@ sender_field None = []
 sender_field (Some (senders.Peer name)) = word_field (codes " peer=") name.now
 sender_field (Some (senders.Stranger name)) = strange_field (codes " peer=") name.now
 
-abbrev pub hello_fields : HelloRefusal → Option Sender → List ℕ → List ℕ
-hello_fields refusal sender address = number_field (codes " status=") (status_of refusal) ++ (sender_field sender ++ address_field address)
+abbrev pub wrong_port_fields : Port → Option Sender → List ℕ → List ℕ
+wrong_port_fields port sender address = word_field (codes " port=") (port_name port) ++ (sender_field sender ++ address_field address)
 
--- the peer that lines left out were about
+-- what a hello says instead of what it should: the name by which it calls this node, or the version
+abbrev pub said_field : HelloRefusal → List ℕ → List ℕ
+said_field refusals.Version said = strange_if (codes " protocol=") said
+said_field refusals.OtherNode said = strange_if (codes " called=") said
+said_field refusals.Garbled said = []
+said_field refusals.Stranger said = []
+said_field refusals.Elsewhere said = []
+
+abbrev pub hello_fields : HelloRefusal → Option Sender → List ℕ → List ℕ → List ℕ
+hello_fields refusal sender address said =
+    number_field (codes " status=") (status_of refusal) ++ (sender_field sender ++ (address_field address ++ said_field refusal said))
+
+-- a peer, if there is one
 abbrev pub peer_field : Option (List ℕ) → List ℕ
 peer_field None = []
 peer_field (Some name) = word_field (codes " peer=") name
@@ -114,8 +139,15 @@ omission_fields peer cause count = peer_field peer ++ (of_field cause ++ number_
 
 -- ---- of a peer
 
-abbrev pub session_fields : Bool → Version → List ℕ
-session_fields accepted version = word_field (codes " role=") (role_name accepted) ++ word_field (codes " protocol=") (version_name version)
+-- whether the peer is another process than before, if that is known
+abbrev pub process_field : Process → List ℕ
+process_field processes.Unknown = []
+process_field processes.New = word_field (codes " process=") (codes "new")
+process_field processes.Same = word_field (codes " process=") (codes "same")
+
+abbrev pub session_fields : Bool → Version → Process → List ℕ
+session_fields accepted version process =
+    word_field (codes " role=") (role_name accepted) ++ (word_field (codes " protocol=") (version_name version) ++ process_field process)
 
 abbrev pub resync_fields : Bool → ResyncEnd → ℕ → ℕ → List ℕ
 resync_fields taught end rows milliseconds =
@@ -125,10 +157,11 @@ resync_fields taught end rows milliseconds =
 abbrev pub peer_fields : PeerEvent → List ℕ
 peer_fields peers.Connecting = []
 peer_fields (peers.Unreachable reason) = []
+peer_fields (peers.NoSession why cause) = []
 peer_fields (peers.Refused status node) = number_field (codes " status=") status
-peer_fields (peers.Connected accepted version) = session_fields accepted version
+peer_fields (peers.Connected accepted version process) = session_fields accepted version process
 peer_fields peers.Asked = []
-peer_fields peers.Unanswered = []
+peer_fields (peers.Unanswered why) = word_field (codes " why=") (wait_name why)
 peer_fields (peers.ResyncEnded taught end rows milliseconds) = resync_fields taught end rows milliseconds
 peer_fields (peers.Mismatch table difference theirs ours) = word_field (codes " table=") table.now ++ word_field (codes " what=") (what_name difference)
 peer_fields (peers.Unshared table) = strange_field (codes " table=") table.now
@@ -136,7 +169,7 @@ peer_fields (peers.Undefined table) = word_field (codes " table=") table.now
 peer_fields (peers.Left table) = word_field (codes " table=") table.now
 peer_fields peers.PassedOver = []
 peer_fields (peers.Fault fault) = word_field (codes " fault=") fault.now
-peer_fields (peers.Ended begun end) = word_field (codes " end=") (end_name end)
+peer_fields (peers.Ended end cause) = word_field (codes " end=") (end_name end)
 
 -- ---- of an event
 
@@ -147,8 +180,12 @@ name_of (Some name) = Some name.now
 abbrev pub keys_text : Event → List ℕ
 keys_text (events.Start version configuration node) = start_fields version.now configuration.now node.now
 keys_text (events.Listening port address) = listening_fields port address.now
-keys_text (events.HelloRefused sender address refusal node) = hello_fields refusal sender address.now
+keys_text (events.HelloRefused sender address refusal node said) = hello_fields refusal sender address.now said.now
 keys_text (events.OfPeer name address event) = word_field (codes " peer=") name.now ++ (address_field address.now ++ peer_fields event)
+keys_text (events.WrongPort port sender address listen) = wrong_port_fields port sender address.now
+keys_text (events.UpToDate teacher) = peer_field (name_of teacher)
+keys_text (events.HeldUp milliseconds) = number_field (codes " ms=") milliseconds
+keys_text (events.ConfigurationWarning warning) = []
 keys_text (events.Renewed table) = word_field (codes " table=") table.now
 keys_text (events.Omitted peer cause count) = omission_fields (name_of peer) cause count
 keys_text events.Stop = []

@@ -31,8 +31,12 @@ peer_texts event = []
 abbrev pub texts_of : Event → List (List ℕ)
 texts_of (events.Start version configuration node) = version.now ∷ configuration.now ∷ node.now ∷ []
 texts_of (events.Listening port address) = address.now ∷ []
-texts_of (events.HelloRefused sender address refusal node) = address.now ∷ sender_texts sender
+texts_of (events.HelloRefused sender address refusal node said) = address.now ∷ said.now ∷ sender_texts sender
 texts_of (events.OfPeer name address event) = name.now ∷ address.now ∷ peer_texts event
+texts_of (events.WrongPort port sender address listen) = address.now ∷ sender_texts sender
+texts_of (events.UpToDate teacher) = texts_if (name_of teacher)
+texts_of (events.HeldUp milliseconds) = []
+texts_of (events.ConfigurationWarning warning) = []
 texts_of (events.Renewed table) = table.now ∷ []
 texts_of (events.Omitted peer (omissions.Repeated event) count) = event.now ∷ texts_if (name_of peer)
 texts_of (events.Omitted peer omissions.Unwritten count) = texts_if (name_of peer)
@@ -46,6 +50,7 @@ peer_numbers event = []
 -- the numbers that they say
 abbrev pub numbers_of : Event → List ℕ
 numbers_of (events.OfPeer name address event) = peer_numbers event
+numbers_of (events.HeldUp milliseconds) = milliseconds ∷ []
 numbers_of (events.Omitted peer cause count) = count ∷ []
 numbers_of event = []
 

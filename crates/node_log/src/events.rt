@@ -13,6 +13,10 @@ pub fn event_name(event: &Event<'_>) -> &'static str
         Event::Listening { .. } => "listening",
         Event::HelloRefused { .. } => "hello-refused",
         Event::OfPeer { event, .. } => peer_event_name(event),
+        Event::WrongPort { .. } => "wrong-port",
+        Event::UpToDate { .. } => "up-to-date",
+        Event::HeldUp { .. } => "held-up",
+        Event::ConfigurationWarning { .. } => "configuration-warning",
         Event::Renewed { .. } => "renewed",
         Event::Omitted { .. } => "omitted",
         Event::Stop => "stop",
@@ -25,11 +29,11 @@ pub fn peer_event_name(event: &PeerEvent<'_>) -> &'static str
 {
     match event {
         PeerEvent::Connecting => "connecting",
-        PeerEvent::Unreachable { .. } => "unreachable",
+        PeerEvent::Unreachable { .. } | PeerEvent::NoSession { .. } => "unreachable",
         PeerEvent::Refused { .. } => "refused",
         PeerEvent::Connected { .. } => "connected",
         PeerEvent::Asked => "asked",
-        PeerEvent::Unanswered => "unanswered",
+        PeerEvent::Unanswered { .. } => "unanswered",
         PeerEvent::ResyncEnded { .. } => "resync-ended",
         PeerEvent::Mismatch { .. } => "mismatch",
         PeerEvent::Unshared { .. } => "unshared",
@@ -46,11 +50,17 @@ pub fn level_of(event: &Event<'_>) -> Level
     ensures { result ≡ level_of event.now }
 {
     match event {
-        Event::HelloRefused { .. } | Event::Omitted { .. } => Level::Warn,
+        Event::HelloRefused { .. }
+        | Event::WrongPort { .. }
+        | Event::HeldUp { .. }
+        | Event::ConfigurationWarning { .. }
+        | Event::Omitted { .. } => Level::Warn,
         Event::OfPeer { event, .. } => peer_event_level(event),
-        Event::Start { .. } | Event::Listening { .. } | Event::Renewed { .. } | Event::Stop => {
-            Level::Info
-        }
+        Event::Start { .. }
+        | Event::Listening { .. }
+        | Event::UpToDate { .. }
+        | Event::Renewed { .. }
+        | Event::Stop => Level::Info,
     }
 }
 
@@ -67,8 +77,9 @@ fn peer_event_level(event: &PeerEvent<'_>) -> Level
         PeerEvent::ResyncEnded { end, .. } => resync_level(*end),
         PeerEvent::Ended { end, .. } => end_level(*end),
         PeerEvent::Unreachable { .. }
+        | PeerEvent::NoSession { .. }
         | PeerEvent::Refused { .. }
-        | PeerEvent::Unanswered
+        | PeerEvent::Unanswered { .. }
         | PeerEvent::Mismatch { .. }
         | PeerEvent::Left { .. }
         | PeerEvent::PassedOver
@@ -91,9 +102,7 @@ fn end_level(end: SessionEnd) -> Level
     ensures { result ≡ end_level end }
 {
     match end {
-        SessionEnd::End | SessionEnd::Replaced => Level::Info,
-        SessionEnd::Silent | SessionEnd::Fault | SessionEnd::Device | SessionEnd::Error => {
-            Level::Warn
-        }
+        SessionEnd::End | SessionEnd::Replaced | SessionEnd::Device => Level::Info,
+        SessionEnd::Silent | SessionEnd::Fault | SessionEnd::Error => Level::Warn,
     }
 }

@@ -1,8 +1,9 @@
 //! Lines of the log as they are written.
 
 use crate::lines::{Form, push_line};
-use node_core::{Event, HelloRefusal, Omission, PeerEvent, ResyncEnd, Sender};
+use node_core::{Event, HelloRefusal, Omission, PeerEvent, Process, ResyncEnd, Sender};
 use std::test::Fail;
+use table_types::Version;
 
 /// Returns the line of an event at noon on 28 November 2026.
 fn line(rt: &HostRuntime, form: Form, event: &Event<'_>) -> Result<Vec<u8>, Fail> {
@@ -69,10 +70,59 @@ fn a_strange_name_ends_no_line(rt: HostRuntime) -> Result<(), Fail> {
         address: b"10.0.0.9:4711",
         refusal: HelloRefusal::Stranger,
         node: b"n1",
+        said: b"",
     };
     let text = line(&rt, Form::Journal, &event)?;
     let wanted =
         b"<4>event=hello-refused status=504 peer=0x783A20790A address=10.0.0.9:4711: this node has no peer of this name: add a line \"peer NAME ..\" with it here, or mend the name by which it calls itself\n";
+    assert_eq!(rt; text.as_slice(), wanted.as_slice());
+    Ok(())
+}
+
+#[test]
+fn a_refused_hello_says_what_it_calls_this_node(rt: HostRuntime) -> Result<(), Fail> {
+    let event = Event::HelloRefused {
+        sender: Some(Sender::Stranger(b"n1")),
+        address: b"10.0.0.9:4711",
+        refusal: HelloRefusal::OtherNode,
+        node: b"n1",
+        said: b"lb 1",
+    };
+    let text = line(&rt, Form::Journal, &event)?;
+    let wanted =
+        b"<4>event=hello-refused status=503 peer=n1 address=10.0.0.9:4711 called=0x6C622031: whoever connected calls itself n1, as this node does: this node connected to itself, so a line \"peer ..\" here has this node's own address and has to have the peer's, or another node has the same line \"node n1\" and needs another name\n";
+    assert_eq!(rt; text.as_slice(), wanted.as_slice());
+    Ok(())
+}
+
+#[test]
+fn a_session_says_whose_process_it_is(rt: HostRuntime) -> Result<(), Fail> {
+    let event = of_peer(PeerEvent::Connected {
+        accepted: true,
+        version: Version::V21,
+        process: Process::New,
+    });
+    let text = line(&rt, Form::Journal, &event)?;
+    let wanted =
+        b"<6>event=connected peer=lb1 address=10.0.0.1:10000 role=accept protocol=2.1 process=new: lb1, under another pid than before (it was started or reloaded, or is another of its processes), has connected to this node, and a session begins\n";
+    assert_eq!(rt; text.as_slice(), wanted.as_slice());
+    let event = Event::UpToDate {
+        teacher: Some(b"lb1"),
+    };
+    let text = line(&rt, Form::Journal, &event)?;
+    let wanted =
+        b"<6>event=up-to-date peer=lb1: this node is up to date, since lb1 has taught it all rows\n";
+    assert_eq!(rt; text.as_slice(), wanted.as_slice());
+    Ok(())
+}
+
+#[test]
+fn a_warning_is_its_sentence(rt: HostRuntime) -> Result<(), Fail> {
+    let event = Event::ConfigurationWarning {
+        warning: b"configuration: warning: x",
+    };
+    let text = line(&rt, Form::Journal, &event)?;
+    let wanted = b"<4>event=configuration-warning: configuration: x\n";
     assert_eq!(rt; text.as_slice(), wanted.as_slice());
     Ok(())
 }
@@ -96,7 +146,7 @@ fn numbers_have_their_keys(rt: HostRuntime) -> Result<(), Fail> {
     };
     let text = line(&rt, Form::Journal, &event)?;
     let wanted =
-        b"<4>event=omitted peer=lb1 of=fault count=7: so many more lines of this event were left out, since at most 5 a second are written\n";
+        b"<4>event=omitted peer=lb1 of=fault count=7: lines of this event that were left out, since at most 5 a second are written: 7\n";
     assert_eq!(rt; text.as_slice(), wanted.as_slice());
     Ok(())
 }

@@ -1,9 +1,11 @@
 //! The keys of events and their values.
 ghost use Rattle.std.specs.Prelude.{◌≡◌, ◌++◌, OnOk};
-ghost use Rattle.node_log.specs.Keys.{address_field, hello_fields, keys_text, listening_fields, name_of, number_field, omission_fields, peer_fields, port_name, resync_fields, resync_name, role_name, sender_field, session_fields, start_fields, status_of, strange_field, teacher_or_learner, version_name, what_name, word_field};
+ghost use Rattle.node_log.specs.Keys.{address_field, hello_fields, keys_text, listening_fields, name_of, number_field, omission_fields, peer_field, peer_fields, port_name, process_field, resync_fields, resync_name, role_name, said_field, sender_field, session_fields, start_fields, status_of, strange_field, strange_if, teacher_or_learner, version_name, wait_name, what_name, word_field, wrong_port_fields};
 
 use crate::values::{push_strange, push_word};
-use node_core::{Difference, Event, HelloRefusal, Omission, PeerEvent, Port, ResyncEnd, Sender};
+use node_core::{
+    Difference, Event, HelloRefusal, Omission, PeerEvent, Port, Process, ResyncEnd, Sender, WaitEnd,
+};
 use node_text::push_number;
 use std::alloc::AllocError;
 use table_types::Version;
@@ -22,6 +24,16 @@ fn push_strange_field(text: &mut Vec<u8>, key: &str, name: &[u8]) -> Result<(), 
 {
     text.extend_from_slice(key.as_bytes())?;
     push_strange(text, name)
+}
+
+/// Appends a key and a name as `push_strange_field` does, if the name is known.
+fn push_strange_if(text: &mut Vec<u8>, key: &str, name: &[u8]) -> Result<(), AllocError>
+    ensures { OnOk result (text.new.items ≡ text.old.items ++ strange_if key.now name.now) }
+{
+    if name.is_empty() {
+        return Ok(());
+    }
+    push_strange_field(text, key, name)
 }
 
 /// Appends a key as `push_field` does, and a number.
@@ -43,12 +55,19 @@ pub(crate) fn push_keys(text: &mut Vec<u8>, event: &Event<'_>) -> Result<(), All
             node,
         } => push_start(text, version, configuration, node),
         Event::Listening { port, address } => push_listening(text, *port, address),
+        Event::WrongPort {
+            port,
+            sender,
+            address,
+            ..
+        } => push_wrong_port(text, *port, sender, address),
         Event::HelloRefused {
             sender,
             address,
             refusal,
+            said,
             ..
-        } => push_hello(text, *refusal, sender, address),
+        } => push_hello(text, *refusal, sender, address, said),
         Event::OfPeer {
             name,
             address,
@@ -58,9 +77,11 @@ pub(crate) fn push_keys(text: &mut Vec<u8>, event: &Event<'_>) -> Result<(), All
             push_address(text, address)?;
             push_peer_keys(text, event)
         }
+        Event::UpToDate { teacher } => push_peer(text, *teacher),
+        Event::HeldUp { milliseconds } => push_number_field(text, " ms=", *milliseconds),
         Event::Renewed { table } => push_field(text, " table=", table),
         Event::Omitted { peer, cause, count } => push_omission(text, *peer, *cause, *count),
-        Event::Stop => Ok(()),
+        Event::ConfigurationWarning { .. } | Event::Stop => Ok(()),
     }
 }
 
@@ -78,11 +99,25 @@ fn push_start(
     push_field(text, " node=", node)
 }
 
-/// Appends which port is open.
+/// Appends a port, and an address.
 fn push_listening(text: &mut Vec<u8>, port: Port, address: &[u8]) -> Result<(), AllocError>
     ensures { OnOk result (text.new.items ≡ text.old.items ++ listening_fields port address.now) }
 {
     push_field(text, " port=", port_name(port).as_bytes())?;
+    push_address(text, address)
+}
+
+/// Appends a port, who sent a hello to it, and an address.
+fn push_wrong_port(
+    text: &mut Vec<u8>,
+    port: Port,
+    sender: &Option<Sender<'_>>,
+    address: &[u8],
+) -> Result<(), AllocError>
+    ensures { OnOk result (text.new.items ≡ text.old.items ++ wrong_port_fields port sender.now address.now) }
+{
+    push_field(text, " port=", port_name(port).as_bytes())?;
+    push_sender(text, sender)?;
     push_address(text, address)
 }
 
@@ -113,12 +148,25 @@ fn push_hello(
     refusal: HelloRefusal,
     sender: &Option<Sender<'_>>,
     address: &[u8],
+    said: &[u8],
 ) -> Result<(), AllocError>
-    ensures { OnOk result (text.new.items ≡ text.old.items ++ hello_fields refusal sender.now address.now) }
+    ensures { OnOk result (text.new.items ≡ text.old.items ++ hello_fields refusal sender.now address.now said.now) }
 {
     push_number_field(text, " status=", u64::from(status_of(refusal)))?;
     push_sender(text, sender)?;
-    push_address(text, address)
+    push_address(text, address)?;
+    push_said(text, refusal, said)
+}
+
+/// Appends what a hello that was refused so says instead of what it should.
+fn push_said(text: &mut Vec<u8>, refusal: HelloRefusal, said: &[u8]) -> Result<(), AllocError>
+    ensures { OnOk result (text.new.items ≡ text.old.items ++ said_field refusal said.now) }
+{
+    match refusal {
+        HelloRefusal::Version => push_strange_if(text, " protocol=", said),
+        HelloRefusal::OtherNode => push_strange_if(text, " called=", said),
+        HelloRefusal::Garbled | HelloRefusal::Stranger | HelloRefusal::Elsewhere => Ok(()),
+    }
 }
 
 /// Returns the status that answers a hello that is refused so.
@@ -144,6 +192,16 @@ fn push_sender(text: &mut Vec<u8>, sender: &Option<Sender<'_>>) -> Result<(), Al
     }
 }
 
+/// Appends a peer's name, if there is one.
+fn push_peer(text: &mut Vec<u8>, peer: Option<&[u8]>) -> Result<(), AllocError>
+    ensures { OnOk result (text.new.items ≡ text.old.items ++ peer_field (name_of peer.entry)) }
+{
+    match peer {
+        Some(name) => push_field(text, " peer=", name),
+        None => Ok(()),
+    }
+}
+
 /// Appends what was left out.
 fn push_omission(
     text: &mut Vec<u8>,
@@ -153,9 +211,7 @@ fn push_omission(
 ) -> Result<(), AllocError>
     ensures { OnOk result (text.new.items ≡ text.old.items ++ omission_fields (name_of peer.entry) cause count) }
 {
-    if let Some(name) = peer {
-        push_field(text, " peer=", name)?;
-    }
+    push_peer(text, peer)?;
     if let Omission::Repeated(event) = cause {
         push_field(text, " of=", event.as_bytes())?;
     }
@@ -169,13 +225,18 @@ fn push_peer_keys(text: &mut Vec<u8>, event: &PeerEvent<'_>) -> Result<(), Alloc
     match event {
         PeerEvent::Connecting
         | PeerEvent::Unreachable { .. }
+        | PeerEvent::NoSession { .. }
         | PeerEvent::Asked
-        | PeerEvent::Unanswered
         | PeerEvent::PassedOver => Ok(()),
+        PeerEvent::Unanswered { why } => { push_field(text, " why=", wait_name(*why).as_bytes()) }
         PeerEvent::Refused { status, .. } => {
             push_number_field(text, " status=", u64::from(*status))
         }
-        PeerEvent::Connected { accepted, version } => push_session(text, *accepted, *version),
+        PeerEvent::Connected {
+            accepted,
+            version,
+            process,
+        } => push_session(text, *accepted, *version, *process),
         PeerEvent::ResyncEnded {
             taught,
             end,
@@ -199,12 +260,29 @@ fn push_peer_keys(text: &mut Vec<u8>, event: &PeerEvent<'_>) -> Result<(), Alloc
     }
 }
 
-/// Appends which end made the connection, and the version that the session speaks.
-fn push_session(text: &mut Vec<u8>, accepted: bool, version: Version) -> Result<(), AllocError>
-    ensures { OnOk result (text.new.items ≡ text.old.items ++ session_fields accepted version) }
+/// Appends which end made the connection, the version that the session speaks, and what is known of the peer's process.
+fn push_session(
+    text: &mut Vec<u8>,
+    accepted: bool,
+    version: Version,
+    process: Process,
+) -> Result<(), AllocError>
+    ensures { OnOk result (text.new.items ≡ text.old.items ++ session_fields accepted version process) }
 {
     push_field(text, " role=", role_name(accepted).as_bytes())?;
-    push_field(text, " protocol=", version_name(version).as_bytes())
+    push_field(text, " protocol=", version_name(version).as_bytes())?;
+    push_process(text, process)
+}
+
+/// Appends whether the peer is another process than before, if that is known.
+fn push_process(text: &mut Vec<u8>, process: Process) -> Result<(), AllocError>
+    ensures { OnOk result (text.new.items ≡ text.old.items ++ process_field process) }
+{
+    match process {
+        Process::Unknown => Ok(()),
+        Process::New => push_field(text, " process=", "new".as_bytes()),
+        Process::Same => push_field(text, " process=", "same".as_bytes()),
+    }
 }
 
 /// Returns the word for the node's end of a connection.
@@ -267,5 +345,15 @@ fn what_name(difference: Difference) -> &'static str
         Difference::Length => "length",
         Difference::Types => "types",
         Difference::Period => "period",
+    }
+}
+
+/// Returns the word for why a peer isn't waited for any longer.
+fn wait_name(why: WaitEnd) -> &'static str
+    ensures { result.now ≡ wait_name why }
+{
+    match why {
+        WaitEnd::Mute => "mute",
+        WaitEnd::Endless => "endless",
     }
 }

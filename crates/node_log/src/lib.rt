@@ -20,6 +20,6 @@ pub use keys::status_of;
 pub use laws::{at_most_five_a_second, lines_are_read};
 pub use limits::Limit;
 pub use lines::{Form, push_line};
-pub use senders::sender_of;
+pub use senders::{called_by, is_greeting, pid_of, said_version, sender_of};
 pub use told::Told;
 pub use waiting::{Fate, Waiting};

@@ -1,8 +1,13 @@
 //! What the log says of events to people: what happened, to whom, and what repairs it.
 
-use node_core::{Event, HelloRefusal, Omission, PeerEvent, Port, ResyncEnd, SessionEnd};
+use node_core::{
+    Event, HelloRefusal, NoSession, Omission, PeerEvent, Port, Process, ResyncEnd, Sender,
+    SessionEnd, WaitEnd,
+};
+use node_text::cut;
 use std::alloc::{AllocError, Global};
 use std::str;
+use table_types::is_same_name;
 
 /// Returns a name as text.
 fn text_of(name: &[u8]) -> &str {
@@ -14,15 +19,53 @@ pub(crate) fn sentence_of(alloc: Global, event: &Event<'_>) -> Result<String, Al
     match event {
         Event::Start { .. } => String::from_str(alloc, "the node starts"),
         Event::Listening { port, .. } => String::from_str(alloc, port_sentence(*port)),
-        Event::HelloRefused { refusal, node, .. } => hello_sentence(alloc, *refusal, text_of(node)),
+        Event::HelloRefused {
+            sender,
+            refusal,
+            node,
+            ..
+        } => {
+            if is_called(sender, node) {
+                namesake_sentence(alloc, text_of(node))
+            } else {
+                hello_sentence(alloc, *refusal, text_of(node))
+            }
+        }
         Event::OfPeer { name, event, .. } => peer_sentence(alloc, text_of(name), event),
+        Event::WrongPort { listen, .. } => {
+            let listen = text_of(listen);
+            format!(in alloc;
+                "a peer connected here, and this isn't the port for peers: its line for this node has to have the port of \"listen {listen}\" here"
+            )
+        }
+        Event::UpToDate { teacher } => up_to_date_sentence(alloc, *teacher),
+        Event::HeldUp { milliseconds } => {
+            let time = *milliseconds;
+            format!(in alloc;
+                "this node stood still for {time} ms: it was stopped, or its host was paused or too busy"
+            )
+        }
+        Event::ConfigurationWarning { warning } => warning_sentence(alloc, warning),
         Event::Renewed { .. } => String::from_str(
             alloc,
             "almost all numbers of this table are used up, so its rows get new ones, and all sessions begin anew",
         ),
-        Event::Omitted { cause, .. } => String::from_str(alloc, omission_sentence(*cause)),
+        Event::Omitted { cause, count, .. } => omission_sentence(alloc, *cause, *count),
         Event::Stop => String::from_str(alloc, "the node stops"),
     }
+}
+
+/// Returns the sentence of a warning about the configuration, without the word `warning` behind its line, which the event says.
+fn warning_sentence(alloc: Global, warning: &[u8]) -> Result<String, AllocError> {
+    if let Some((line, behind)) = cut(warning, b':') {
+        if let Some((word, sentence)) = cut(behind, b':') {
+            if is_same_name(word, b" warning".as_slice()) {
+                let (line, sentence) = (text_of(line), text_of(sentence));
+                return format!(in alloc; "{line}:{sentence}");
+            }
+        }
+    }
+    String::from_str(alloc, text_of(warning))
 }
 
 /// Returns the sentence about a port.
@@ -34,16 +77,45 @@ fn port_sentence(port: Port) -> &'static str {
     }
 }
 
-/// Returns the sentence about lines that were left out.
-fn omission_sentence(cause: Omission) -> &'static str {
-    match cause {
-        Omission::Repeated(_) => {
-            "so many more lines of this event were left out, since at most 5 a second are written"
+/// Returns the sentence about a node that becomes up to date.
+fn up_to_date_sentence(alloc: Global, teacher: Option<&[u8]>) -> Result<String, AllocError> {
+    match teacher {
+        Some(name) => {
+            let name = text_of(name);
+            format!(in alloc; "this node is up to date, since {name} has taught it all rows")
         }
-        Omission::Unwritten => {
-            "so many lines were left out here, since standard error didn't take them in time"
-        }
+        None => String::from_str(
+            alloc,
+            "this node is up to date, since no peer has more to teach",
+        ),
     }
+}
+
+/// Returns the sentence about `count` lines that were left out.
+fn omission_sentence(alloc: Global, cause: Omission, count: u64) -> Result<String, AllocError> {
+    match cause {
+        Omission::Repeated(_) => format!(in alloc;
+            "lines of this event that were left out, since at most 5 a second are written: {count}"
+        ),
+        Omission::Unwritten => format!(in alloc;
+            "lines that were lost, since standard error didn't take them in time or memory ran out: {count}"
+        ),
+    }
+}
+
+/// Returns whether the sender of a hello has this name.
+fn is_called(sender: &Option<Sender<'_>>, name: &[u8]) -> bool {
+    match sender {
+        Some(Sender::Peer(own)) | Some(Sender::Stranger(own)) => is_same_name(own, name),
+        None => false,
+    }
+}
+
+/// Returns the sentence about a hello that the node, which calls itself `node`, refused, and whose sender calls itself so too.
+fn namesake_sentence(alloc: Global, node: &str) -> Result<String, AllocError> {
+    format!(in alloc;
+        "whoever connected calls itself {node}, as this node does: this node connected to itself, so a line \"peer ..\" here has this node's own address and has to have the peer's, or another node has the same line \"node {node}\" and needs another name"
+    )
 }
 
 /// Returns the sentence about a hello that the node, which calls itself `node`, refused.
@@ -79,24 +151,56 @@ fn peer_sentence(alloc: Global, name: &str, event: &PeerEvent<'_>) -> Result<Str
             let reason = text_of(reason);
             format!(in alloc; "this node can't connect to {name}: {reason}")
         }
+        PeerEvent::NoSession { why, cause } => {
+            no_session_sentence(alloc, name, *why, text_of(cause))
+        }
         PeerEvent::Refused { status, node } => {
             status_sentence(alloc, *status, name, text_of(node))
         }
-        PeerEvent::Connected { accepted: true, .. } => {
-            format!(in alloc; "{name} has connected to this node, and a session begins")
-        }
         PeerEvent::Connected {
-            accepted: false,
+            accepted,
+            process,
             ..
-        } => { format!(in alloc; "this node has connected to {name}, and a session begins") }
+        } => begin_sentence(alloc, name, *accepted, *process),
         PeerEvent::Asked => format!(in alloc; "this node asks {name} for all rows"),
-        PeerEvent::Unanswered => format!(in alloc;
-            "{name} has brought neither a row nor its end for 5 s, so it isn't waited for any longer"
-        ),
+        PeerEvent::Unanswered { why } => wait_sentence(alloc, name, *why),
         PeerEvent::ResyncEnded { taught, end, .. } => resync_sentence(alloc, name, *taught, *end),
         PeerEvent::Fault { .. } => format!(in alloc; "{name} has broken the protocol"),
-        PeerEvent::Ended { begun, end } => end_sentence(alloc, name, *begun, *end),
+        PeerEvent::Ended { end, cause } => end_sentence(alloc, name, *end, text_of(cause)),
         _ => table_sentence(alloc, name, event),
+    }
+}
+
+/// Returns the sentence about the peer called `name` that isn't waited for any longer.
+fn wait_sentence(alloc: Global, name: &str, why: WaitEnd) -> Result<String, AllocError> {
+    match why {
+        WaitEnd::Mute => format!(in alloc;
+            "this node no longer waits for {name}, which has sent neither a row nor the end of its resync for 5 s"
+        ),
+        WaitEnd::Endless => format!(in alloc;
+            "this node no longer waits for {name}, which goes on sending rows and hasn't ended its resync within ten minutes"
+        ),
+    }
+}
+
+/// Returns the sentence about the beginning of a session with the peer called `name`.
+fn begin_sentence(
+    alloc: Global,
+    name: &str,
+    accepted: bool,
+    process: Process,
+) -> Result<String, AllocError> {
+    match (accepted, process) {
+        (false, _) => format!(in alloc; "this node has connected to {name}, and a session begins"),
+        (true, Process::Unknown) => {
+            format!(in alloc; "{name} has connected to this node, and a session begins")
+        }
+        (true, Process::New) => format!(in alloc;
+            "{name}, under another pid than before (it was started or reloaded, or is another of its processes), has connected to this node, and a session begins"
+        ),
+        (true, Process::Same) => format!(in alloc;
+            "{name}, by its pid the same process as before, has connected to this node again, and a session begins"
+        ),
     }
 }
 
@@ -171,32 +275,67 @@ fn resync_sentence(
     }
 }
 
-/// Returns the sentence about the end of a connection with the peer called `name`.
+/// Returns what stands behind "ended" if this is known of the cause.
+fn or_failure(cause: &str) -> &str {
+    if cause.is_empty() {
+        "by a failure"
+    } else {
+        cause
+    }
+}
+
+/// Returns the sentence about a connection with the peer called `name` that came to no session. `cause` stands behind "ended".
+fn no_session_sentence(
+    alloc: Global,
+    name: &str,
+    why: NoSession,
+    cause: &str,
+) -> Result<String, AllocError> {
+    match why {
+        NoSession::Closed => format!(in alloc;
+            "the address of {name} takes connections, and this one was closed before {name} answered: it may be stopping, or nothing stands behind a proxy there"
+        ),
+        NoSession::Silent => format!(in alloc;
+            "the address of {name} takes connections, and for 10 s no answer came: it hangs, or something other than a peers port of HAProxy is there"
+        ),
+        NoSession::Strange => format!(in alloc;
+            "something other than a peers port of HAProxy answers at the address of {name}: the line \"peer {name} ..\" has to have the port that {name}'s section of peers has"
+        ),
+        NoSession::Device => {
+            let cause = or_failure(cause);
+            format!(in alloc; "before {name} answered, the connection to it ended {cause}")
+        }
+        NoSession::AtOnce => format!(in alloc;
+            "{name} took this node's hello, and the connection ended at once"
+        ),
+        NoSession::Lacking if cause.is_empty() => format!(in alloc;
+            "this node lacks memory or a thread for a session with {name}"
+        ),
+        NoSession::Lacking => format!(in alloc;
+            "before a session with {name} began, the connection ended {cause}"
+        ),
+    }
+}
+
+/// Returns the sentence about the end of a session with the peer called `name`. `cause` stands behind "ended".
 fn end_sentence(
     alloc: Global,
     name: &str,
-    begun: bool,
     end: SessionEnd,
+    cause: &str,
 ) -> Result<String, AllocError> {
-    let what = if begun {
-        "the session"
-    } else {
-        "before a session began, the connection"
-    };
     match end {
-        SessionEnd::End => format!(in alloc; "{what} with {name} was closed"),
+        SessionEnd::End => format!(in alloc; "the session with {name} was closed"),
         SessionEnd::Silent => format!(in alloc;
-            "{what} with {name} was given up, since no byte of it came for 10 s"
+            "the session with {name} was given up, since no byte of it came for 10 s"
         ),
-        SessionEnd::Fault => format!(in alloc; "{what} with {name} ended for its fault"),
+        SessionEnd::Fault => format!(in alloc; "the session with {name} ended for its fault"),
         SessionEnd::Replaced => format!(in alloc;
-            "{what} with {name} ended, since {name} has connected anew"
+            "the session with {name} ended, since {name} has connected anew"
         ),
-        SessionEnd::Device => format!(in alloc;
-            "{what} with {name} ended by a failed read or write"
-        ),
-        SessionEnd::Error => format!(in alloc;
-            "{what} with {name} ended by an error message of it, or for want of memory here"
-        ),
+        SessionEnd::Device | SessionEnd::Error => {
+            let cause = or_failure(cause);
+            format!(in alloc; "the session with {name} ended {cause}")
+        }
     }
 }

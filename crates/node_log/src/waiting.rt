@@ -1,9 +1,10 @@
 //! The lines of the log that wait to be written.
-ghost use Rattle.std.specs.Prelude.{◌≡◌, ◌≢◌, ◌+◌, ◌-◌, ◌++◌, ◌∷◌, ◌^◌, [], IfOk, IfSome, OnErr, OnOk, None, false, min, true};
+ghost use Rattle.std.specs.Prelude.{◌≡◌, ◌≢◌, ◌+◌, ◌-◌, ◌++◌, ◌∷◌, ◌^◌, [], IfOk, IfSome, OnErr, OnOk, None, false, map, min, true};
 ghost use Rattle.node_log.specs.Events.{event_name};
+ghost use Rattle.node_log.specs.Keys.{name_of};
 ghost use Rattle.node_log.specs.Limits.{after, has_room, unsaid};
 ghost use Rattle.node_log.specs.Lines.{Adds};
-ghost use Rattle.node_log.specs.Waiting.{HaveLine, are_of, is_due, is_same_peer, limit_of, told, with_line};
+ghost use Rattle.node_log.specs.Waiting.{AddsDue, AddsOmitted, AreToldUpTo, HaveLine, are_of, is_due, is_same_peer, limit_of, name_at, told, told_if_due, with_line};
 
 use crate::events::event_name;
 use crate::limits::Limit;
@@ -71,15 +72,12 @@ impl Limited {
         names: &[Name],
     ) -> Result<(), AllocError>
         ensures told { OnOk result (self.new ≡ told self.old) }
+        ensures line { OnOk result (AddsOmitted form names.now self.old text.old.items text.new.items) }
         ensures stays { OnErr result (self.new ≡ self.old) }
         ensures same { OnErr result (text.new.items ≡ text.old.items) }
     {
-        let peer = match self.peer {
-            Some(index) => names.get(index).map(|name| name.as_slice()),
-            None => None,
-        };
         let event = Event::Omitted {
-            peer,
+            peer: name_at(names, self.peer),
             cause: Omission::Repeated(self.event),
             count: self.limit.omitted(),
         };
@@ -102,6 +100,16 @@ fn append(
     let mut line = Vec::new(alloc);
     push_line(alloc, &mut line, form, event)?;
     text.extend_from_slice(line.as_slice())
+}
+
+/// Returns the name of the peer with this index, if there is one.
+fn name_at(names: &[Name], peer: Option<usize>) -> Option<&[u8]>
+    ensures { name_of result ≡ name_at names.now peer }
+{
+    match names.get(peer?) {
+        Some(name) => Some(name.as_slice()),
+        None => None,
+    }
 }
 
 /// Returns whether both are one peer, or both are none.
@@ -159,7 +167,11 @@ fn tell_all(
     form: Form,
     names: &[Name],
     last: bool,
-) -> Result<(), AllocError> {
+) -> Result<(), AllocError>
+    ensures told { OnOk result (limits.new ≡ map (told_if_due now last) limits.old) }
+    ensures lines { OnOk result (AddsDue form names.now now last limits.old text.old.items text.new.items) }
+    ensures so_far { OnErr result (AreToldUpTo form names.now now last limits.old limits.new text.old.items text.new.items) }
+{
     for limited in limits.iter_mut() {
         if limited.is_due(now, last) {
             limited.tell(alloc, text, form, names)?;
@@ -244,7 +256,7 @@ impl Waiting {
         self.unwritten = self.unwritten.saturating_add(count);
     }
 
-    /// Notes that so many of these lines were said to be so.
+    /// Notes that `count` of these lines were reported.
     pub fn forget_unwritten(&mut self, count: u64)
         ensures { self.new ≡ record self.old { unwritten = self.old.unwritten - count } }
     {
@@ -260,6 +272,9 @@ impl Waiting {
         names: &[Name],
         last: bool,
     ) -> Result<(), AllocError>
+        ensures told { OnOk result (self.new.limits.items ≡ map (told_if_due now last) self.old.limits.items) }
+        ensures lines { OnOk result (AddsDue form names.now now last self.old.limits.items self.old.text.items self.new.text.items) }
+        ensures so_far { OnErr result (AreToldUpTo form names.now now last self.old.limits.items self.new.limits.items self.old.text.items self.new.text.items) }
         ensures unwritten { self.new.unwritten ≡ self.old.unwritten }
     {
         let limits = self.limits.as_mut_slice();

@@ -9,13 +9,13 @@ use node_commands::{Link, RoundSize, join, round, serve};
 use peers_devices::{Counting, Faults, write_all};
 use staying_node::run;
 use std::alloc::{AllocError, Global};
-use std::env;
 use std::fs::Files;
 use std::io::{ErrorKind, Read, Write};
 use std::net::{Net, TcpListener, TcpStream};
 use std::sync::Wait;
 use std::thread::Threads;
 use std::time::Clock;
+use std::{env, process};
 use text_commands::{Ending, check, check_configuration, learn, lesson, table, world};
 
 /// The exit status if the command line is refused or asks for help.
@@ -23,6 +23,9 @@ const WORDS: u8 = 2;
 
 /// The text for words that are no command line, if memory runs out for a longer one.
 const NO_COMMAND_LINE: &str = "error: not a command line of this program\n";
+
+/// What is said besides of words that give `run` a file.
+const NO_FILE: &str = "The configuration is read from standard input: peers_node run < FILE\n";
 
 /// Runs the subcommand that the command line chooses and returns the exit status. `runner` starts its threads and opens
 /// its sockets.
@@ -106,7 +109,8 @@ where
         Ok(Options::Run { checks: true }) => run_configuration_check(alloc, &mut input, errors),
         Ok(Options::Run { checks: false }) => {
             let log = Counting::new(rt.stderr());
-            run_node(runner, alloc, &mut input, errors, log)
+            let pid = process::id(rt.process());
+            run_node(runner, alloc, pid, &mut input, errors, log)
         }
         Ok(
             Options::Round {
@@ -124,7 +128,7 @@ where
         }
         Ok(Options::Serve(link)) => run_serve(runner, alloc, link, &mut input, &mut output, errors),
         Ok(Options::Join(link)) => run_join(runner, alloc, link, &mut input, &mut output, errors),
-        Err(refusal) => refused(alloc, &refusal, errors),
+        Err(refusal) => refused(alloc, words, &refusal, errors),
     }
 }
 
@@ -191,12 +195,12 @@ fn run_node<
     I: Read + Faults,
     E: Write + Faults,
     L: Write + Faults + Send + Drop + 'static,
->(runner: &R, alloc: Global, input: &mut I, errors: &mut E, log: L) -> u8
+>(runner: &R, alloc: Global, pid: u32, input: &mut I, errors: &mut E, log: L) -> u8
 where
     R::File: Send + Sync,
     R::Dir: Send + Sync,
 {
-    run(runner, alloc, input, errors, log).status()
+    run(runner, alloc, pid, input, errors, log).status()
 }
 
 #[inline(never)]
@@ -233,11 +237,52 @@ fn run_join<
     join(runner, alloc, link, input, output, errors).status()
 }
 
+/// Returns whether a word is an option.
+fn is_option(word: &str) -> bool {
+    match word.as_bytes().first() {
+        Some(byte) => *byte == b'-',
+        None => false,
+    }
+}
+
+/// Returns whether one of the words is no option.
+fn has_plain_word(words: &[&str]) -> bool {
+    for word in words {
+        if !is_option(word) {
+            return true;
+        }
+    }
+    false
+}
+
+/// Returns whether `run` is chosen and a word that is no option stands behind it, such as the name of a file.
+fn has_file(words: &[&str]) -> bool {
+    let [_, command, rest @ ..] = words else {
+        return false;
+    };
+    *command == "run" && has_plain_word(rest)
+}
+
+/// Returns what is wrong with the words.
+fn text_of(alloc: Global, words: &[&str], refusal: &Refusal) -> Result<String, AllocError> {
+    let text = refusal.text(alloc)?;
+    if !has_file(words) {
+        return Ok(text);
+    }
+    let (wrong, hint) = (text.as_str(), NO_FILE);
+    format!(in alloc; "{wrong}\n{hint}")
+}
+
 /// Writes why the words are refused.
-fn refused<E: Write + Faults>(alloc: Global, refusal: &Refusal, errors: &mut E) -> u8 {
+fn refused<E: Write + Faults>(
+    alloc: Global,
+    words: &[&str],
+    refusal: &Refusal,
+    errors: &mut E,
+) -> u8 {
     match refusal.cause() {
         OptionsError::Memory => Ending::Memory.said(alloc, errors).status(),
-        OptionsError::Words => match refusal.text(alloc) {
+        OptionsError::Words => match text_of(alloc, words, refusal) {
             Ok(text) => said(text.as_str(), errors),
             Err(_) => said(NO_COMMAND_LINE, errors),
         },

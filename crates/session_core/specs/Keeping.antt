@@ -9,6 +9,8 @@ use Rattle.session_core.specs.declared.event.Event.TheVariants as events
 use Rattle.session_core.specs.declared.heard.Heard.{Heard}
 use Rattle.session_core.specs.declared.machine.Machine.{Machine}
 use Rattle.session_core.specs.declared.stay.Stay.{Stay}
+use Rattle.session_core.specs.declared.tally.Counts.{Counts}
+use Rattle.session_core.specs.AskedCounts.{none_asked}
 use Rattle.session_core.specs.HeardCounts.{CountsEvent, none_heard}
 use Rattle.session_core.specs.Paces.{Pace}
 use Rattle.session_core.specs.Manners.{Manner}
@@ -17,15 +19,17 @@ use Rattle.session_core.specs.Sessions.{SessionState, Goes, seen, in_phase, is_a
 use Rattle.session_core.specs.StandingRuns.{Happening, At, Tick, Ask, CatchUp}
 use Rattle.session_core.specs.Standing.{StandingState, Stands, Ticks, changed, caught_up, caught_up_in, sent_at, stays_from}
 
--- what a session remembers: its state, its manner, and what it counted of what the remote peer sent
+-- what a session remembers: its state, its manner, what it counted of what the remote peer sent, and what it counted of what it asked
+-- for since it began to stay
 pub record KeptSession : Type 0 where
   pub session : SessionState
   pub manner : Manner
   pub heard : Heard
+  pub counts : Counts
 
 -- a plain session that received nothing
 abbrev pub plain : SessionState → KeptSession
-plain s = record { session = s; manner = manners.Plain; heard = none_heard }
+plain s = record { session = s; manner = manners.Plain; heard = none_heard; counts = none_asked }
 
 abbrev pub standing : SessionState → Pace → StandingState
 standing s p = record { session = s; pace = p }
@@ -48,12 +52,16 @@ abbrev pub manner_of : Option (Box Stay Global) → Manner
 manner_of None = manners.Plain
 manner_of (Some stay) = manners.Staying stay.value.pace
 
-abbrev pub seen_as : Machine → Option (Box Stay Global) → KeptSession
-seen_as machine stay = record { session = seen machine; manner = manner_of stay; heard = machine.heard }
+abbrev pub counts_of : Option (Box Stay Global) → Counts
+counts_of None = none_asked
+counts_of (Some stay) = stay.value.tally.counts
 
--- the session stays from `now` on
+abbrev pub seen_as : Machine → Option (Box Stay Global) → KeptSession
+seen_as machine stay = record { session = seen machine; manner = manner_of stay; heard = machine.heard; counts = counts_of stay }
+
+-- the session stays from `now` on, and counts what it asks for from then on
 abbrev pub kept_from : ℕ → KeptSession → KeptSession
-kept_from now s = staying_as s (stays_from now s.session)
+kept_from now s = record (staying_as s (stays_from now s.session)) { counts = none_asked }
 
 -- ---- an event
 

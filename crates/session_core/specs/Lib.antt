@@ -10,6 +10,7 @@ pub mod Cutting
 pub mod Paces
 pub mod Standing
 pub mod Manners
+pub mod AskedCounts
 pub mod Keeping
 pub mod StandingRuns
 pub mod StandingSteps

@@ -59,7 +59,7 @@ impl Controls {
 }
 
 /// Returns the count after one more, unless it is full.
-fn one_more(count: u64) -> u64
+pub(crate) fn one_more(count: u64) -> u64
     ensures { result ≡ one_more count }
 {
     count.saturating_add(1)

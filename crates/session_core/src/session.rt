@@ -4,6 +4,7 @@ ghost use Rattle.std.specs.Prelude.{◌≡◌, ◌≢◌, Err, IfOk, IfErr, OnEr
 ghost use Rattle.session_core.specs.declared.error.SessionError.{SessionError};
 ghost use Rattle.session_core.specs.declared.error.SessionError.TheVariants as errors;
 ghost use Rattle.session_core.specs.declared.event.Event.TheVariants as events;
+ghost use Rattle.session_core.specs.AskedCounts.{asked_as};
 ghost use Rattle.session_core.specs.Courses.{reading_of};
 ghost use Rattle.session_core.specs.Keeping.{IsTicked, Steps, catching_up, is_any_ahead, is_staying, kept_from, noting_sent, plain};
 ghost use Rattle.session_core.specs.Sessions.{Refuses, connecting, accepting, ended, open_course, state_of};
@@ -235,8 +236,10 @@ impl Session {
         self.machine.reader()
     }
 
-    /// Returns how much the session asked for since it began to stay; a plain session counts nothing. No contract says what is counted.
-    pub fn counts(&self) -> Counts {
+    /// Returns how much the session asked for since it began to stay; a plain session counts nothing.
+    pub fn counts(&self) -> Counts
+        ensures { result ≡ self.now.counts }
+    {
         match &self.stay {
             None => Counts::none(),
             Some(stay) => stay.tally.counts,
@@ -244,7 +247,7 @@ impl Session {
     }
 
     /// Returns what the session asked for in each table since it began to stay, in roster order; of a plain session nothing. No
-    /// contract says what is counted.
+    /// contract says what is noted.
     pub fn tables(&self) -> &[TableTally] {
         match &self.stay {
             None => &[],
@@ -270,6 +273,7 @@ impl Session {
     /// as it was.
     pub fn on(&mut self, event: Event, now: Moment) -> Result<Vec<Action>, SessionError>
         ensures steps { IfOk result (λ acts. Steps self.old now event acts.items self.new) }
+        ensures counted { IfOk result (λ acts. self.new.counts ≡ asked_as self.old.manner acts.items self.old.counts) }
         ensures refused { IfErr result (λ e. Refuses self.old.session.phase event e) }
         ensures exactly { (e : SessionError) → e ≢ errors.Memory → Refuses self.old.session.phase event e → result ≡ Err e }
         ensures ended { OnErr result (self.new ≡ record self.old { session = ended self.old.session }) }
@@ -286,6 +290,7 @@ impl Session {
     /// neither may, the session refuses the tick for the cause for which it would refuse `Turn`.
     pub fn tick(&mut self, now: Moment) -> Result<Ticked, SessionError>
         ensures ticks { IfOk result (λ t. IsTicked self.old now t.left.items t.actions.items self.new) }
+        ensures counted { IfOk result (λ t. self.new.counts ≡ asked_as self.old.manner t.actions.items self.old.counts) }
         ensures refused { IfErr result (λ e. Refuses self.old.session.phase events.Turn e) }
         ensures exactly { (e : SessionError) → e ≢ errors.Memory → Refuses self.old.session.phase events.Turn e → result ≡ Err e }
         ensures ended { OnErr result (self.new ≡ record self.old { session = ended self.old.session }) }

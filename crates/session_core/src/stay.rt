@@ -11,6 +11,7 @@ ghost use Rattle.session_core.specs.declared.error.SessionError.{SessionError};
 ghost use Rattle.session_core.specs.declared.error.SessionError.TheVariants as errors;
 ghost use Rattle.session_core.specs.Phases.{Phase};
 ghost use Rattle.session_core.specs.Phases as phases;
+ghost use Rattle.session_core.specs.AskedCounts.{all_asked};
 ghost use Rattle.session_core.specs.HeardCounts.{CountsEvent};
 ghost use Rattle.session_core.specs.Courses.{is_due, none_due};
 ghost use Rattle.session_core.specs.Sessions.{Keeps, Refuses, IsWhy, ended, phase_of, seen};
@@ -109,6 +110,7 @@ impl Stay {
         ensures hands { IfOk result (λ acts. HandsOn (stood machine.old self.old) now event acts.items (stood machine.new self.new)) }
         ensures heard { OnOk result (CountsEvent event (phase_of machine.old.stage machine.old.course) machine.old.heard machine.new.heard) }
         ensures refused { IfErr result (λ e. Refuses (phase_of machine.old.stage machine.old.course) event e) }
+        ensures tallied { OnOk result (self.new.tally ≡ self.old.tally) }
         ensures kept { OnErr result (Keeps machine.old machine.new × (self.new ≡ self.old)) }
     {
         let hears = brings_bytes(&event);
@@ -131,6 +133,7 @@ impl Stay {
         ensures listens { IfOk result (λ acts. Listens (stood machine.old self.old) now bytes acts.items (stood machine.new self.new)) }
         ensures heard { OnOk result (CountsEvent (events.Bytes bytes) (phase_of machine.old.stage machine.old.course) machine.old.heard machine.new.heard) }
         ensures refused { IfErr result (λ e. Refuses (phase_of machine.old.stage machine.old.course) (events.Bytes bytes) e) }
+        ensures tallied { OnOk result (self.new.tally ≡ self.old.tally) }
         ensures kept { OnErr result (Keeps machine.old machine.new × (self.new ≡ self.old)) }
     {
         let actions = self.hand_on(machine, alloc, Event::Bytes(bytes), now)?;
@@ -149,6 +152,7 @@ impl Stay {
         ensures begins { IfOk result (λ acts. Does tasks.Begin (stood machine.old self.old) machine.old.course now acts.items (stood machine.new self.new)) }
         ensures heard { OnOk result (machine.new.heard ≡ machine.old.heard) }
         ensures refused { IfErr result (λ e. IsWhy (none_due machine.old.course.due) e) }
+        ensures tallied { OnOk result (self.new.tally ≡ self.old.tally) }
         ensures kept { OnErr result (Keeps machine.old machine.new × (self.new ≡ self.old)) }
     {
         if !machine.course.none_due() {
@@ -172,6 +176,7 @@ impl Stay {
         ensures turns { IfOk result (λ acts. TakesTurn (phase_of machine.old.stage machine.old.course) (stood machine.old self.old) now acts.items (stood machine.new self.new)) }
         ensures heard { OnOk result (machine.new.heard ≡ machine.old.heard) }
         ensures refused { IfErr result (λ e. Refuses (phase_of machine.old.stage machine.old.course) events.Turn e) }
+        ensures tallied { OnOk result (self.new.tally ≡ self.old.tally) }
         ensures kept { OnErr result (Keeps machine.old machine.new × (self.new ≡ self.old)) }
     {
         match &machine.stage {
@@ -196,6 +201,7 @@ impl Stay {
     ) -> Result<Vec<Action>, SessionError>
         ensures writes { IfOk result (λ acts. Writes (phase_of machine.old.stage machine.old.course) (stood machine.old self.old) now known acts.items (stood machine.new self.new)) }
         ensures refused { IfErr result (λ e. Refuses (phase_of machine.old.stage machine.old.course) (events.Written known) e) }
+        ensures tallied { OnOk result (self.new.tally ≡ self.old.tally) }
         ensures kept { OnErr result (Keeps machine.old machine.new × (self.new ≡ self.old)) }
         ensures heard { OnOk result (machine.new.heard ≡ machine.old.heard) }
     {
@@ -221,6 +227,7 @@ impl Stay {
         ensures stands { IfOk result (λ acts. Stands (stood machine.old self.old) now (events.Copied table batch) acts.items (stood machine.new self.new)) }
         ensures heard { OnOk result (machine.new.heard ≡ machine.old.heard) }
         ensures refused { IfErr result (λ e. Refuses (phase_of machine.old.stage machine.old.course) (events.Copied table batch) e) }
+        ensures tallied { OnOk result (self.new.tally ≡ self.old.tally) }
         ensures kept { OnErr result (Keeps machine.old machine.new × (self.new ≡ self.old)) }
     {
         let number = last_number(&batch);
@@ -240,6 +247,7 @@ impl Stay {
         ensures hands { IfOk result (λ acts. HandsOn (stood machine.old self.old) now (answer_of_refusal (is_ahead table self.old.pace.progress) table) acts.items (stood machine.new self.new)) }
         ensures heard { OnOk result (machine.new.heard ≡ machine.old.heard) }
         ensures refused { IfErr result (λ e. Refuses (phase_of machine.old.stage machine.old.course) (events.Refused table) e) }
+        ensures tallied { OnOk result (self.new.tally ≡ self.old.tally) }
         ensures kept { OnErr result (Keeps machine.old machine.new × (self.new ≡ self.old)) }
     {
         if is_ahead(self.pace.progress.as_slice(), table) {
@@ -259,6 +267,7 @@ impl Stay {
     ) -> Result<Vec<Action>, SessionError>
         ensures stands { IfOk result (λ acts. Stands (stood machine.old self.old) now event acts.items (stood machine.new self.new)) }
         ensures heard { OnOk result (CountsEvent event (phase_of machine.old.stage machine.old.course) machine.old.heard machine.new.heard) }
+        ensures counted { IfOk result (λ acts. self.new.tally.counts ≡ all_asked acts.items self.old.tally.counts) }
         ensures refused { IfErr result (λ e. Refuses (phase_of machine.old.stage machine.old.course) event e) }
         ensures exactly { (e : SessionError) → e ≢ errors.Memory → Refuses (phase_of machine.old.stage machine.old.course) event e → result ≡ Err e }
         ensures ended { OnErr result ((seen machine.new ≡ ended (seen machine.old)) × (machine.new.heard ≡ machine.old.heard) × (self.new ≡ self.old)) }
@@ -280,6 +289,7 @@ impl Stay {
     ) -> Result<Ticked, SessionError>
         ensures ticks { IfOk result (λ t. Ticks (stood machine.old self.old) now t.left.items t.actions.items (stood machine.new self.new)) }
         ensures heard { OnOk result (machine.new.heard ≡ machine.old.heard) }
+        ensures counted { IfOk result (λ t. self.new.tally.counts ≡ all_asked t.actions.items self.old.tally.counts) }
         ensures refused { IfErr result (λ e. Refuses (phase_of machine.old.stage machine.old.course) events.Turn e) }
         ensures exactly { (e : SessionError) → e ≢ errors.Memory → Refuses (phase_of machine.old.stage machine.old.course) events.Turn e → result ≡ Err e }
         ensures ended { OnErr result ((seen machine.new ≡ ended (seen machine.old)) × (machine.new.heard ≡ machine.old.heard) × (self.new ≡ self.old)) }
@@ -307,6 +317,7 @@ impl Stay {
         ensures stands { IfOk result (λ acts. Stands (stood machine.old self.old) now event acts.items (stood machine.new self.new)) }
         ensures heard { OnOk result (CountsEvent event (phase_of machine.old.stage machine.old.course) machine.old.heard machine.new.heard) }
         ensures refused { IfErr result (λ e. Refuses (phase_of machine.old.stage machine.old.course) event e) }
+        ensures tallied { OnOk result (self.new.tally ≡ self.old.tally) }
         ensures kept { OnErr result (Keeps machine.old machine.new × (self.new ≡ self.old)) }
     {
         match event {
@@ -348,6 +359,7 @@ impl Stay {
         ensures ticks { IfOk result (λ t. TicksIn false (phases.Open machine.old.course) (stood machine.old self.old) now t.left.items t.actions.items (stood machine.new self.new)) }
         ensures heard { OnOk result (machine.new.heard ≡ machine.old.heard) }
         ensures memory { IfErr result (λ e. e ≡ errors.Memory) }
+        ensures tallied { OnOk result (self.new.tally ≡ self.old.tally) }
         ensures kept { OnErr result (Keeps machine.old machine.new × (self.new ≡ self.old)) }
     {
         let progress = self.pace.progress.as_slice();
@@ -376,6 +388,7 @@ impl Stay {
         ensures ticks { IfOk result (λ t. TicksIn false (phase_of machine.old.stage machine.old.course) (stood machine.old self.old) now t.left.items t.actions.items (stood machine.new self.new)) }
         ensures heard { OnOk result (machine.new.heard ≡ machine.old.heard) }
         ensures memory { IfErr result (λ e. e ≡ errors.Memory) }
+        ensures tallied { OnOk result (self.new.tally ≡ self.old.tally) }
         ensures kept { OnErr result (Keeps machine.old machine.new × (self.new ≡ self.old)) }
     {
         match &machine.stage {
@@ -411,6 +424,7 @@ impl Stay {
         ensures ticks { IfOk result (λ t. Ticks (stood machine.old self.old) now t.left.items t.actions.items (stood machine.new self.new)) }
         ensures heard { OnOk result (machine.new.heard ≡ machine.old.heard) }
         ensures refused { IfErr result (λ e. Refuses (phase_of machine.old.stage machine.old.course) events.Turn e) }
+        ensures tallied { OnOk result (self.new.tally ≡ self.old.tally) }
         ensures kept { OnErr result (Keeps machine.old machine.new × (self.new ≡ self.old)) }
     {
         machine.check_turn()?;

@@ -17,8 +17,12 @@ use Rattle.node_log.proofs.Crosses.{told_send, waiting_send}
 use Rattle.table_shards.proofs.Crosses.{shards_sync}
 use Rattle.staying_node.specs.contracts.admin.AdminPort as AdminPort
 use Rattle.staying_node.specs.contracts.admin.Clients as Clients
+use Rattle.staying_node.specs.contracts.bell.Bell as Bell
 use Rattle.staying_node.specs.contracts.catching_up.CatchingUp as CatchingUp
+use Rattle.staying_node.specs.contracts.clock.NodeClock as NodeClock
 use Rattle.staying_node.specs.contracts.doors.Doors as Doors
+use Rattle.staying_node.specs.contracts.fault_counts.FaultCounts as FaultCounts
+use Rattle.staying_node.specs.contracts.lags.Lags as Lags
 use Rattle.staying_node.specs.contracts.log.Log as Log
 use Rattle.staying_node.specs.contracts.metrics_port.MetricsPort as MetricsPort
 use Rattle.staying_node.specs.contracts.metrics_port.Visits as Visits
@@ -27,8 +31,10 @@ use Rattle.staying_node.specs.contracts.numbering.Numbering as Numbering
 use Rattle.staying_node.specs.contracts.ports.Ports as Ports
 use Rattle.staying_node.specs.contracts.slot.Slot as Slot
 use Rattle.staying_node.specs.contracts.sockets.SocketFile as SocketFile
+use Rattle.staying_node.specs.contracts.status.PeerStatus as PeerStatus
 use Rattle.staying_node.specs.contracts.streams.Listener as Listener
 use Rattle.staying_node.specs.contracts.streams.Stream as Stream
+use Rattle.staying_node.specs.contracts.wrong_ports.WrongPorts as WrongPorts
 
 roster_sync : IsSync (Roster.the_field).row
 roster_sync = search (sendable, crosses) depth 80 fits 20000
@@ -45,8 +51,11 @@ setting_sync = search (sendable, crosses) depth 80 fits 20000
 configuration_sync : IsSync (Configuration.the_field).row
 configuration_sync = search (name_sync, peer_sync, setting_sync, sendable, crosses) depth 80 fits 20000
 
+status_send : IsSend (PeerStatus.the_field).row
+status_send = search (sendable, crosses) depth 80 fits 20000
+
 slot_sync : IsSync (Slot.the_field).row
-slot_sync = search (sendable, crosses) depth 80 fits 20000
+slot_sync = search (status_send, sendable, crosses) depth 80 fits 20000
 
 catching_up_sync : IsSync (CatchingUp.the_field).row
 catching_up_sync = search (asking_send, sendable, crosses) depth 80 fits 20000
@@ -63,8 +72,24 @@ log_sync = search (waiting_send, name_sync, sendable, crosses) depth 80 fits 200
 pub log_send : IsSend (Log.the_field).row
 log_send = search (waiting_send, name_send, sendable, crosses) depth 80 fits 20000
 
+wrong_ports_sync : IsSync (WrongPorts.the_field).row
+wrong_ports_sync = search (told_send, sendable, crosses) depth 80 fits 20000
+
+clock_sync : IsSync (NodeClock.the_field).row
+clock_sync = search (sendable, crosses) depth 80 fits 20000
+
+faults_sync : IsSync (FaultCounts.the_field).row
+faults_sync = search (sendable, crosses) depth 80 fits 20000
+
+lags_sync : IsSync (Lags.the_field).row
+lags_sync = search (sendable, crosses) depth 80 fits 20000
+
+bell_sync : IsSync (Bell.the_field).row
+bell_sync = search (sendable, crosses) depth 80 fits 20000
+
 pub node_sync : IsSync (Node.the_field).row
-node_sync = search (roster_sync, configuration_sync, slot_sync, catching_up_sync, numbering_sync, log_sync, log_send, shards_sync, sendable, crosses) depth 80 fits 20000
+node_sync =
+    search (name_sync, roster_sync, configuration_sync, slot_sync, catching_up_sync, numbering_sync, log_sync, log_send, wrong_ports_sync, shards_sync, clock_sync, faults_sync, lags_sync, bell_sync, sendable, crosses) depth 80 fits 20000
 
 doors_sync : IsSync (Doors.the_field).row
 doors_sync = search (told_send, sendable, crosses) depth 80 fits 20000

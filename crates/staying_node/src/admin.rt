@@ -8,6 +8,7 @@ use crate::requests::Requester;
 use crate::sockets::SocketFile;
 use crate::streams::{Listener, Stream};
 use admin_port::{is_idle_too_long, longest_idle, makes_room, push_too_many};
+use node_core::Port;
 use std::alloc::{AllocError, Global};
 use std::fs::Files;
 use std::io::{ErrorKind, Read, Write};
@@ -485,6 +486,9 @@ fn serve<R: Wait + Clock + Files>(
                 since = node.clock.milliseconds(rt);
             }
             clients.rest(rt, place, since);
+            if reading.greeted {
+                node.wrong_ports.tell(rt, node, Port::Admin, stream, read);
+            }
             if !goes_on {
                 return linger(rt, node, stream, &mut piece);
             }

@@ -1,14 +1,14 @@
 //! Whom the node asks for all rows, for the threads that it concerns.
 
-use node_core::Asking;
+use node_core::{Asking, WaitEnd};
 use std::alloc::{AllocError, Global};
 use std::sync::{Mutex, Wait};
 
 /// What has changed by the time that has passed.
 #[derive(Clone, Copy, Debug)]
 pub(crate) struct Passed {
-    /// The index of the peer that is no longer waited for.
-    pub(crate) unanswered: Option<usize>,
+    /// The index of the peer that is no longer waited for, and why.
+    pub(crate) unanswered: Option<(usize, WaitEnd)>,
     /// Whether the node has just become up to date, since nobody has more to teach.
     pub(crate) settled: bool,
 }
@@ -58,16 +58,22 @@ impl CatchingUp {
         asking.hear(peer, now);
     }
 
-    /// Notes that the peer with this index has ended its resync as finished.
-    pub(crate) fn finish<R: Wait>(&self, rt: &R, peer: usize) {
+    /// Notes that the peer with this index has ended its resync as finished. Returns whether the node becomes up to date by that.
+    pub(crate) fn finish<R: Wait>(&self, rt: &R, peer: usize) -> bool {
         let mut asking = self.asking.lock(rt);
-        asking.finish(peer);
+        asking.finish(peer)
     }
 
     /// Notes that the peer with this index has ended its resync as partial.
     pub(crate) fn finish_partly<R: Wait>(&self, rt: &R, peer: usize) {
         let mut asking = self.asking.lock(rt);
         asking.finish_partly(peer);
+    }
+
+    /// Notes that the node was held up until `now`.
+    pub(crate) fn wait_anew<R: Wait>(&self, rt: &R, now: u64) {
+        let mut asking = self.asking.lock(rt);
+        asking.wait_anew(now);
     }
 
     /// Notes the time, and returns what has changed by it.

@@ -12,23 +12,54 @@ use tolerant_intake::Reader;
 /// The time between two looks at what a peer has defined, unless it has defined more tables meanwhile, in milliseconds.
 const PAUSE: u64 = 2_500;
 
-/// What the log has said of how a peer defines tables, in all its sessions.
+/// What was found of a table of this node, in all sessions with a peer.
+#[derive(Drop)]
+struct FoundOfTable {
+    /// What the log has said of it.
+    said: Once,
+    /// Whether the peer hadn't defined it although it would have, and hasn't since.
+    undefined: bool,
+}
+
+/// What was found of how a peer defines tables, in all its sessions, and what the log has said of it.
 #[derive(Drop)]
 pub(crate) struct SaidOfTables {
-    /// What it has said of each table of this node, in ascending order of id.
-    tables: Vec<Once>,
+    /// What was found of each table of this node, in ascending order of id.
+    tables: Vec<FoundOfTable>,
     /// The names of tables that this node lacks.
     unshared: SaidNames,
 }
 
 impl SaidOfTables {
-    /// Returns what the log has said at first: nothing.
+    /// Returns what was found and said at first: nothing.
     pub(crate) fn new(alloc: Global) -> SaidOfTables {
         SaidOfTables {
             tables: Vec::new(alloc),
             unshared: SaidNames::new(alloc),
         }
     }
+
+    /// Returns how many tables of this node the peer hasn't defined, although it would have.
+    fn count_undefined(&self) -> u64 {
+        let mut count = 0u64;
+        for table in &self.tables {
+            if table.undefined {
+                count = count.saturating_add(1);
+            }
+        }
+        count
+    }
+}
+
+/// What a look at a peer's tables finds.
+#[derive(Drop)]
+struct Findings {
+    /// What differs in each table of this node, in ascending order of id.
+    differences: Vec<Option<Difference>>,
+    /// How many tables the peer has defined that this node lacks.
+    unshared: u64,
+    /// How many of this node's tables the peer hadn't defined on this session or one before, although it would have, and hasn't since.
+    undefined: u64,
 }
 
 /// The comparison of a peer's tables on a connection with this node's.
@@ -76,9 +107,11 @@ impl Comparison {
         let mut said = place.slot.said_of_tables(place.rt);
         let compared = look.compare(&mut said);
         drop(said);
-        if let Ok(differences) = compared {
+        if let Ok(findings) = compared {
             let mut status = place.slot.status(place.rt);
-            status.differences = differences;
+            status.differences = findings.differences;
+            status.unshared = findings.unshared;
+            status.undefined = findings.undefined;
         }
     }
 }
@@ -93,22 +126,28 @@ struct Look<'a, N> {
 }
 
 impl<'a, N: Wait + Clock> Look<'a, N> {
-    /// Returns what differs in each table of this node, in ascending order of id, and has the log say what is news.
-    fn compare(&self, said: &mut SaidOfTables) -> Result<Vec<Option<Difference>>, AllocError> {
+    /// Returns what there is to be found, and has the log say what is news.
+    fn compare(&self, said: &mut SaidOfTables) -> Result<Findings, AllocError> {
         let node = self.place.node;
         let mut differences = Vec::new(node.alloc);
         for (index, table) in node.roster.tables().iter().enumerate() {
             if said.tables.len() <= index {
-                said.tables.push(Once::new())?;
+                said.tables.push(FoundOfTable {
+                    said: Once::new(),
+                    undefined: false,
+                })?;
             }
             let difference = match said.tables.get_mut(index) {
-                Some(once) => self.compare_table(table, once)?,
+                Some(found) => self.compare_table(table, found)?,
                 None => None,
             };
             differences.push(difference)?;
         }
-        self.look_for_unshared(&mut said.unshared)?;
-        Ok(differences)
+        Ok(Findings {
+            differences,
+            unshared: self.look_for_unshared(&mut said.unshared)?,
+            undefined: said.count_undefined(),
+        })
     }
 
     /// Returns whether the log has room for the line of an event. If not, a later look has it say that.
@@ -141,30 +180,32 @@ impl<'a, N: Wait + Clock> Look<'a, N> {
     fn compare_table(
         &self,
         table: &TableDef,
-        said: &mut Once,
+        found: &mut FoundOfTable,
     ) -> Result<Option<Difference>, AllocError> {
         let own = TableShape::of(table);
         let Some(theirs) = self.defined(table.name()) else {
-            self.look_at_undefined(table.name(), said)?;
+            self.look_at_undefined(table.name(), found)?;
             return Ok(None);
         };
+        found.undefined = false;
         let difference = own.difference(&theirs);
         match difference {
             Some(difference) => {
-                self.say_difference(table.name(), difference, &own, &theirs, said)?
+                self.say_difference(table.name(), difference, &own, &theirs, &mut found.said)?
             }
-            None => said.forget(),
+            None => found.said.forget(),
         }
         Ok(difference)
     }
 
-    /// Has the log say that the peer hasn't defined a table, if it won't, and that is news.
-    fn look_at_undefined(&self, table: &[u8], said: &mut Once) -> Result<(), AllocError> {
+    /// Notes that the peer hasn't defined a table, if it would have, and has the log say that if it is news.
+    fn look_at_undefined(&self, table: &[u8], found: &mut FoundOfTable) -> Result<(), AllocError> {
+        if !self.all_defined {
+            return Ok(());
+        }
+        found.undefined = true;
         let event = PeerEvent::Undefined { table };
-        if self.all_defined
-            && self.has_room(&event)
-            && said.is_news(self.place.node.alloc, b"undefined")?
-        {
+        if self.has_room(&event) && found.said.is_news(self.place.node.alloc, b"undefined")? {
             self.log(event);
         }
         Ok(())
@@ -202,23 +243,29 @@ impl<'a, N: Wait + Clock> Look<'a, N> {
         tables.iter().any(|table| is_same_name(table.name(), name))
     }
 
-    /// Has the log say which tables the peer has defined that this node lacks, each once.
-    fn look_for_unshared(&self, said: &mut SaidNames) -> Result<(), AllocError> {
+    /// Returns how many tables the peer has defined that this node lacks, and has the log say which these are, each once.
+    fn look_for_unshared(&self, said: &mut SaidNames) -> Result<u64, AllocError> {
         let received = self.reader.received();
+        let mut count = 0u64;
         let mut id = 0;
         for _ in 0..received.count() {
             let Some(table) = received.table_above(id) else {
-                return Ok(());
+                break;
             };
             id = table.id();
-            let name = table.name();
-            let event = PeerEvent::Unshared { table: name };
-            if !self.is_shared(name)
-                && self.has_room(&event)
-                && said.is_news(self.place.node.alloc, name)?
-            {
-                self.log(event);
+            if !self.is_shared(table.name()) {
+                count = count.saturating_add(1);
+                self.say_unshared(table.name(), said)?;
             }
+        }
+        Ok(count)
+    }
+
+    /// Has the log say that this node lacks a table that the peer has defined, if that is news.
+    fn say_unshared(&self, table: &[u8], said: &mut SaidNames) -> Result<(), AllocError> {
+        let event = PeerEvent::Unshared { table };
+        if self.has_room(&event) && said.is_news(self.place.node.alloc, table)? {
+            self.log(event);
         }
         Ok(())
     }

@@ -2,10 +2,10 @@
 
 use crate::clock::milliseconds;
 use crate::devices::is_pause;
-use crate::node::{Node, address_text};
+use crate::node::{Node, address_text, host_text};
 use crate::slot::{Arrival, Slot};
 use node_core::{Event, HelloRefusal, Sender, is_longest};
-use node_log::{Form, Told, push_line, sender_of, status_of};
+use node_log::{Form, Told, called_by, push_line, said_version, sender_of, status_of};
 use node_text::push_number;
 use peers_hello::{Answer, Hello};
 use std::alloc::Global;
@@ -124,36 +124,41 @@ fn is_news_of<R: Wait>(rt: &R, node: &Node, peer: usize, status: u16) -> bool {
     }
 }
 
-/// Returns the host of an address as text, or nothing if it isn't known or memory runs out.
-fn host_text(alloc: Global, address: Option<SocketAddr>) -> String {
-    let Some(address) = address else {
-        return String::new(alloc);
-    };
-    let host = address.ip();
-    format!(in alloc; "{host}").unwrap_or(String::new(alloc))
+/// Returns what a hello that is refused so says instead of what it should, if that is known.
+fn said_in(refusal: HelloRefusal, hello: &[u8]) -> &[u8] {
+    match refusal {
+        HelloRefusal::Version => said_version(hello),
+        HelloRefusal::OtherNode => called_by(hello),
+        HelloRefusal::Garbled | HelloRefusal::Stranger | HelloRefusal::Elsewhere => &[],
+    }
 }
 
-/// Returns the event of a hello that was refused, whose sender calls itself `name`, which is empty if it says no name, and which came
-/// from this address.
-fn hello_event<'a>(
-    node: &'a Node,
-    name: &'a [u8],
-    peer: Option<usize>,
-    refusal: HelloRefusal,
-    address: &'a str,
-) -> Event<'a> {
-    let sender = if name.is_empty() {
+/// Returns who calls itself `name` in a hello, which is empty if it says no name.
+pub(crate) fn sender_named<'a>(node: &Node, name: &'a [u8]) -> Option<Sender<'a>> {
+    if name.is_empty() {
         None
-    } else if peer.is_some() {
+    } else if peer_with(node, name).is_some() {
         Some(Sender::Peer(name))
     } else {
         Some(Sender::Stranger(name))
-    };
+    }
+}
+
+/// Returns the event of a hello that was refused, whose sender calls itself `name`, which is empty if it says no name, which said this
+/// instead of what it should, and which came from this address.
+fn hello_event<'a>(
+    node: &'a Node,
+    name: &'a [u8],
+    said: &'a [u8],
+    refusal: HelloRefusal,
+    address: &'a str,
+) -> Event<'a> {
     Event::HelloRefused {
-        sender,
+        sender: sender_named(node, name),
         address: address.as_bytes(),
         refusal,
         node: node.configuration.node.as_slice(),
+        said,
     }
 }
 
@@ -164,7 +169,7 @@ fn line_of_stranger<'x>(
     name: &'x [u8],
     host: &'x str,
 ) -> Vec<u8> {
-    let event = hello_event(node, name, None, refusal, host);
+    let event = hello_event(node, name, &[], refusal, host);
     let mut line = Vec::new(node.alloc);
     let _whole = push_line(node.alloc, &mut line, Form::Journal, &event);
     line
@@ -176,14 +181,16 @@ fn tell_of_refusal<'x, R: Wait + Clock>(
     node: &'x Node,
     refusal: HelloRefusal,
     name: &'x [u8],
+    said: &'x [u8],
     peer: Option<usize>,
     address: &'x str,
 ) -> bool {
-    let event = hello_event(node, name, peer, refusal, address);
+    let event = hello_event(node, name, said, refusal, address);
     node.log.add(rt, peer, &event)
 }
 
-/// Says in the log that a hello is refused, whose sender calls itself `name`, which is empty if it says no name, if that is news.
+/// Says in the log that a hello is refused, whose sender calls itself `name`, which is empty if it says no name, and which said this
+/// instead of what it should, if that is news.
 fn log_refusal<R: Wait + Clock>(
     rt: &R,
     node: &Node,
@@ -191,13 +198,14 @@ fn log_refusal<R: Wait + Clock>(
     stream: &TcpStream,
     refusal: HelloRefusal,
     name: &[u8],
+    said: &[u8],
 ) {
     let far = stream.peer_addr().ok();
     let text = address_text(node.alloc, far);
     let address = text.as_str();
     if let Some(peer) = peer_with(node, name) {
         if is_news_of(rt, node, peer, status_of(refusal)) {
-            let _said = tell_of_refusal(rt, &*node, refusal, &*name, Some(peer), address);
+            let _said = tell_of_refusal(rt, &*node, refusal, &*name, &*said, Some(peer), address);
         }
         return;
     }
@@ -205,7 +213,7 @@ fn log_refusal<R: Wait + Clock>(
     let line = line_of_stranger(&*node, refusal, &*name, host.as_str());
     let mut told = doors.told.lock(rt);
     if told.is_news(line.as_slice())
-        && tell_of_refusal(rt, &*node, refusal, &*name, None, address)
+        && tell_of_refusal(rt, &*node, refusal, &*name, &*said, None, address)
     {
         let _noted = told.note(node.alloc, line.as_slice());
     }
@@ -332,7 +340,7 @@ impl<'a, R: Wait + Clock> Door<'a, R> {
                     HelloRefusal::Garbled => None,
                     _ => Some(sender_of(bytes)),
                 };
-                self.turn_away(stream, refusal, sender);
+                self.turn_away(stream, refusal, sender, said_in(refusal, bytes));
                 Some(Found::Nothing)
             }
             Answer::More => None,
@@ -345,19 +353,26 @@ impl<'a, R: Wait + Clock> Door<'a, R> {
         match peer_with(self.node, name.as_slice()) {
             Some(peer) if may_come(self.node, peer, address) => Found::Peer(name),
             _ => {
-                self.turn_away(stream, HelloRefusal::Elsewhere, Some(name.as_slice()));
+                self.turn_away(stream, HelloRefusal::Elsewhere, Some(name.as_slice()), &[]);
                 Found::Nothing
             }
         }
     }
 
-    /// Refuses a hello, whose sender calls itself so, and says it in the log if that is news.
-    fn turn_away(&self, stream: &TcpStream, refusal: HelloRefusal, name: Option<&[u8]>) {
+    /// Refuses a hello, whose sender calls itself so, and which said this instead of what it should, and says it in the log if that is
+    /// news.
+    fn turn_away(
+        &self,
+        stream: &TcpStream,
+        refusal: HelloRefusal,
+        name: Option<&[u8]>,
+        said: &[u8],
+    ) {
         let node = self.node;
         let status = status_of(refusal);
         node.count_refused(status);
         let name = name.unwrap_or(&[]);
-        log_refusal(self.rt, node, self.doors, stream, refusal, name);
+        log_refusal(self.rt, node, self.doors, stream, refusal, name, said);
         let _refused = refuse(node.alloc, stream, status);
     }
 

@@ -28,6 +28,8 @@ struct Arrivals {
     over: bool,
     /// Whether a read of the connection failed.
     failed: bool,
+    /// The system's number for why it did, if it gave one.
+    code: Option<i32>,
     /// Whether nobody reads the inbox any more.
     closed: bool,
 }
@@ -50,6 +52,7 @@ impl Inbox {
                 total,
                 over: false,
                 failed: false,
+                code: None,
                 closed: false,
             }),
             room: Condvar::new(),
@@ -76,11 +79,24 @@ impl Inbox {
         true
     }
 
-    /// Notes that nothing more arrives, and whether that is because a read failed.
-    fn end<R: Wait>(&self, rt: &R, failed: bool) {
+    /// Notes that nothing more arrives.
+    fn end<R: Wait>(&self, rt: &R) {
         let mut arrivals = self.arrivals.lock(rt);
         arrivals.over = true;
-        arrivals.failed = arrivals.failed || failed;
+    }
+
+    /// Notes that nothing more arrives, since a read failed, for which the system gave this number.
+    fn fail<R: Wait>(&self, rt: &R, code: Option<i32>) {
+        let mut arrivals = self.arrivals.lock(rt);
+        arrivals.over = true;
+        arrivals.failed = true;
+        arrivals.code = code;
+    }
+
+    /// Returns the system's number for why a read failed, if one did and it gave one.
+    pub(crate) fn code<R: Wait>(&self, rt: &R) -> Option<i32> {
+        let arrivals = self.arrivals.lock(rt);
+        arrivals.code
     }
 
     /// Closes the inbox, so that the thread that reads the connection ends.
@@ -140,13 +156,13 @@ pub(crate) fn receive<R: Wait>(rt: &R, stream: &TcpStream, inbox: &Inbox, bell: 
         let mut from = stream;
         let goes_on = match from.read(&mut piece) {
             Ok(0) => {
-                inbox.end(rt, false);
+                inbox.end(rt);
                 false
             }
             Ok(count) => inbox.add(rt, &piece[..count.min(PIECE)]),
             Err(error) if error.kind() == ErrorKind::Interrupted => true,
-            Err(_) => {
-                inbox.end(rt, true);
+            Err(error) => {
+                inbox.fail(rt, error.raw_os_error());
                 false
             }
         };

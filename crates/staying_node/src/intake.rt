@@ -67,6 +67,11 @@ impl<'a, R> Intake<'a, R> {
 }
 
 impl<'a, R: Wait> Intake<'a, R> {
+    /// Returns the system's number for why a read of the connection failed, if one did and it gave one.
+    pub(crate) fn code(&self) -> Option<i32> {
+        self.inbox.code(self.rt)
+    }
+
     /// Returns how many bytes arrived on the connection.
     pub(crate) fn arrived(&self) -> u64 {
         self.inbox.total(self.rt)

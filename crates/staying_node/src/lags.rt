@@ -15,7 +15,7 @@ const PART: usize = 512;
 /// The most parts in which a table is counted, whatever is changed meanwhile: those of a resync, and those that are pushed behind it.
 const PARTS: usize = 2 * (TableCell::MOST_ROWS / PART + 1);
 
-/// A count of so many parts, and of the rest behind them, is kept for a while.
+/// The node keeps a count for a while if it looked at this many parts of a table or more to make it.
 const MANY_PARTS: usize = 64;
 
 /// How long it is kept, in milliseconds.

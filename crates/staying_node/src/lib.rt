@@ -17,6 +17,7 @@ mod inbox;
 mod intake;
 mod lags;
 mod log;
+mod marked;
 mod measuring;
 mod metrics_port;
 mod node;
@@ -36,5 +37,6 @@ mod streams;
 mod summed;
 mod tables;
 mod viewing;
+mod wrong_ports;
 
 pub use running::run;

@@ -69,6 +69,8 @@ fn peer_report<'a, R: Wait + Clock>(
         last_error: status.last_error(),
         lag: if status.stands() { lag } else { 0 },
         mismatched: status.mismatched(),
+        unshared: status.unshared,
+        undefined: status.undefined,
         tables: table_reports(node, &status)?,
     })
 }
@@ -139,6 +141,8 @@ fn peer_metrics<'a, R: Wait + Clock>(
             taught: status.resyncs_taught,
             learned: status.resyncs_learned,
             mismatched: status.mismatched(),
+            unshared: status.unshared,
+            undefined: status.undefined,
             lags,
         })?;
     }

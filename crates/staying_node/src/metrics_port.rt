@@ -7,6 +7,7 @@ use crate::reading::Reading;
 use crate::streams::{Listener, Stream};
 use crate::viewing::Viewer;
 use admin_port::{is_idle_too_long, longest_idle, push_too_many_clients};
+use node_core::Port;
 use std::alloc::{AllocError, Global};
 use std::fs::Files;
 use std::io::{ErrorKind, Read, Write};
@@ -116,6 +117,10 @@ impl Visit {
             until: node.clock.milliseconds(rt).saturating_add(WRITE_TIME),
         };
         if !viewer.answer(rt, &mut self.reading, piece, &mut reply)? {
+            if self.reading.greeted {
+                node.wrong_ports
+                    .tell(rt, node, Port::Metrics, &self.stream, piece);
+            }
             self.answered = Some(node.clock.milliseconds(rt));
             self.stream.shutdown(Shutdown::Write)?;
         }

@@ -8,6 +8,7 @@ use crate::lags::Lags;
 use crate::log::Log;
 use crate::numbering::Numbering;
 use crate::slot::Slot;
+use crate::wrong_ports::WrongPorts;
 use admin_text::Configuration;
 use node_core::{ALONE, Event, PeerEvent};
 use std::alloc::Global;
@@ -38,6 +39,8 @@ pub(crate) struct Node {
     pub(crate) alloc: Global,
     pub(crate) clock: NodeClock,
     pub(crate) configuration: Configuration,
+    /// The number of the process, which its hellos say.
+    pub(crate) pid: u32,
     /// The tables, in ascending order of id.
     pub(crate) roster: Roster,
     /// The names of the peers, in the configuration's order.
@@ -48,6 +51,7 @@ pub(crate) struct Node {
     pub(crate) catching_up: CatchingUp,
     /// The log, which the thread that writes it shares.
     pub(crate) log: Arc<Log, Global>,
+    pub(crate) wrong_ports: WrongPorts,
     /// How many hellos were refused with each status from 501 on.
     refused: [AtomicU64; 4],
     pub(crate) faults: FaultCounts,
@@ -140,6 +144,15 @@ pub(crate) fn address_text(alloc: Global, address: Option<SocketAddr>) -> String
     }
 }
 
+/// Returns the host of an address as text, or nothing if it isn't known or memory runs out.
+pub(crate) fn host_text(alloc: Global, address: Option<SocketAddr>) -> String {
+    let Some(address) = address else {
+        return String::new(alloc);
+    };
+    let host = address.ip();
+    format!(in alloc; "{host}").unwrap_or(String::new(alloc))
+}
+
 /// Returns a place for each peer.
 fn slots_of(alloc: Global, peers: usize) -> Result<Vec<Slot>, Memory> {
     let mut slots = Vec::with_capacity(alloc, peers)?;
@@ -150,11 +163,12 @@ fn slots_of(alloc: Global, peers: usize) -> Result<Vec<Slot>, Memory> {
 }
 
 impl Node {
-    /// Returns the node of a configuration and its seats.
+    /// Returns the node of a configuration and its seats, in the process with this number.
     pub(crate) fn new(
         alloc: Global,
         clock: NodeClock,
         configuration: Configuration,
+        pid: u32,
     ) -> Result<(Node, Seats), Memory> {
         let peers = configuration.peers.len();
         let roster = roster_of(alloc, &configuration)?;
@@ -178,12 +192,14 @@ impl Node {
             alloc,
             clock,
             configuration,
+            pid,
             roster,
             names,
             shards,
             slots: slots_of(alloc, peers)?,
             catching_up: CatchingUp::new(alloc, peers)?,
             log,
+            wrong_ports: WrongPorts::new(alloc),
             refused: [
                 AtomicU64::new(0),
                 AtomicU64::new(0),
@@ -292,6 +308,16 @@ impl Node {
     /// Adds a line about what happens to the node to the log.
     pub(crate) fn log_event<R: Wait + Clock>(&self, rt: &R, event: Event<'_>) {
         self.log.add(rt, None, &event);
+    }
+
+    /// Adds a line to the log that says that the node becomes up to date, by the peer with this index if one has taught it all rows.
+    pub(crate) fn log_up_to_date<R: Wait + Clock>(&self, rt: &R, teacher: Option<usize>) {
+        let name = match teacher {
+            Some(peer) => self.names.get(peer),
+            None => None,
+        };
+        let teacher = name.map(|name| name.as_slice());
+        self.log_event(rt, Event::UpToDate { teacher });
     }
 
     /// Adds a line about what happens with the peer with this index to the log.

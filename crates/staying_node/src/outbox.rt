@@ -3,6 +3,7 @@
 ghost use Rattle.std.specs.Io.{WritesAtMost};
 
 use crate::clock::{NodeClock, milliseconds};
+use crate::devices::is_pause;
 use node_core::{WRITE_TIME, WriteTime};
 use peers_devices::Faults;
 use std::io;
@@ -18,6 +19,8 @@ pub(crate) struct Outbox<'a, R> {
     clock: NodeClock,
     stream: &'a TcpStream,
     failures: u64,
+    /// The system's number for why the last write that failed did, unless the remote peer reads too slowly.
+    pub(crate) code: Option<i32>,
     /// The time that the writes of the turn have.
     time: WriteTime,
     /// How long the system has a write wait, in milliseconds.
@@ -34,6 +37,7 @@ impl<'a, R> Outbox<'a, R> {
             clock,
             stream,
             failures: 0,
+            code: None,
             time: WriteTime::new(),
             waits: WRITE_TIME,
             begun: 0,
@@ -87,6 +91,11 @@ impl<'a, R: Clock> Write for Outbox<'a, R> {
         match &written {
             Err(error) if error.kind() != ErrorKind::Interrupted => {
                 self.failures = self.failures.saturating_add(1);
+                self.code = if is_pause(error.kind()) {
+                    None
+                } else {
+                    error.raw_os_error()
+                };
             }
             _ => {}
         }

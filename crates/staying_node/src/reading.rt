@@ -1,7 +1,11 @@
 //! What a client sends, as it is read.
 
-use admin_port::{Extent, HttpRequest, MOST_REQUEST, Page, read_http_request};
-use std::alloc::Global;
+use admin_port::{
+    Answer, Extent, HttpRequest, MOST_REQUEST, Page, asks_for_page, push_answer,
+    push_fields_too_large, push_refused, read_http_request,
+};
+use node_log::is_greeting;
+use std::alloc::{AllocError, Global};
 use std::io;
 use std::io::Write;
 
@@ -22,6 +26,8 @@ pub(crate) struct Reading {
     pub(crate) page: Option<(Page, Extent)>,
     /// Whether a request was answered since that was last asked.
     pub(crate) answered: bool,
+    /// Whether a line was refused that a hello of the peers protocol begins with.
+    pub(crate) greeted: bool,
 }
 
 impl Reading {
@@ -35,6 +41,7 @@ impl Reading {
             is_first: true,
             page: None,
             answered: false,
+            greeted: false,
         }
     }
 
@@ -45,9 +52,25 @@ impl Reading {
         answered
     }
 
+    /// Appends the answer to a line that is no request, and notes whether a hello of the peers protocol begins with it.
+    pub(crate) fn refuse(&mut self) -> Result<(), AllocError> {
+        self.greeted = is_greeting(self.line.as_slice());
+        push_refused(&mut self.answers, self.line.as_slice())
+    }
+
     /// Returns whether the line is too long for a request.
     pub(crate) fn is_long(&self) -> bool {
         self.line.len() > MOST_REQUEST
+    }
+
+    /// Answers a line that is too long: 431 in an HTTP request, and otherwise as a line that isn't a request.
+    pub(crate) fn refuse_long(&mut self) -> Result<(), AllocError> {
+        let begins_http = self.is_first && asks_for_page(self.line.as_slice());
+        if self.page.is_some() || begins_http {
+            push_fields_too_large(&mut self.answers)
+        } else {
+            push_answer(&mut self.answers, Answer::Refused)
+        }
     }
 
     /// Returns whether the line is empty, which ends the head of an HTTP request.

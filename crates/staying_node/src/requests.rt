@@ -6,8 +6,8 @@ use crate::reading::{After, MANY_ANSWERS, Reading};
 use crate::tables::{MANY, forget, forget_all, lock, not_before_latest, slide};
 use crate::viewing::Viewer;
 use admin_port::{
-    Answer, Request, push_answer, push_found, push_live_rows, push_node, push_peers, push_refused,
-    push_rows, push_table_header, push_tracked, read_request,
+    Answer, Request, push_answer, push_found, push_live_rows, push_node, push_peers, push_rows,
+    push_table_header, push_tracked, read_request,
 };
 use admin_text::TableSetting;
 use node_text::LineError;
@@ -100,7 +100,7 @@ impl<'a> Requester<'a> {
         self.tell_peers(rt);
         let is_long = reading.is_long();
         if is_long {
-            push_answer(&mut reading.answers, Answer::Refused)?;
+            reading.refuse_long()?;
         }
         reading.write(output)?;
         Ok(!is_long)
@@ -147,7 +147,7 @@ impl<'a> Requester<'a> {
             return Ok(After::Closes);
         }
         if reading.is_long() {
-            push_answer(&mut reading.answers, Answer::Refused)?;
+            reading.refuse_long()?;
             return Ok(After::Closes);
         }
         if let Some(after) = Viewer::new(self.node).answer_http(rt, reading)? {
@@ -164,7 +164,7 @@ impl<'a> Requester<'a> {
             Ok(request) => self.answer_request(rt, reading, request, output),
             Err(LineError::Memory) => Err(AllocError.into()),
             Err(_) => {
-                push_refused(&mut reading.answers, reading.line.as_slice())?;
+                reading.refuse()?;
                 Ok(After::Closes)
             }
         }

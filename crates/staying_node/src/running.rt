@@ -4,6 +4,7 @@ use crate::admin::{AdminPort, accept_clients, serve_clients};
 use crate::clock::{NodeClock, milliseconds};
 use crate::doors::{DOORS, keep_door};
 use crate::log::Log;
+use crate::marked::{Marked, says_journal};
 use crate::metrics_port::{MetricsPort, VIEWERS, accept_visits, serve_visits};
 use crate::node::{Node, Seats};
 use crate::numbering::look_at_numbers;
@@ -12,9 +13,10 @@ use crate::ports::{Ports, StartError, log_ports};
 use crate::streams::Listener;
 use crate::summed::Summed;
 use crate::tables::keep;
-use admin_text::Configuration;
-use node_core::{Event, Need, PeerEvent, Renewal, VERSION};
-use peers_devices::Faults;
+use admin_text::{Configuration, Warnings};
+use node_core::{Event, LastLook, Need, PeerEvent, Renewal, VERSION};
+use node_text::cut;
+use peers_devices::{Counting, Faults, read_to_end};
 use std::alloc::Global;
 use std::fs::Files;
 use std::io::{Read, Write};
@@ -38,11 +40,22 @@ const PURGING: u64 = 1_000;
 /// Has the node no longer wait for a peer that doesn't answer, and has it be up to date if nobody has more to teach.
 fn pass<N: Wait + Clock>(rt: &N, node: &Node, now: u64) {
     let passed = node.catching_up.pass(rt, now);
-    if let Some(peer) = passed.unanswered {
-        node.log_peer_event(rt, peer, PeerEvent::Unanswered);
+    if let Some((peer, why)) = passed.unanswered {
+        node.log_peer_event(rt, peer, PeerEvent::Unanswered { why });
     }
     if passed.settled || passed.unanswered.is_some() {
         node.tell_of_catching_up(rt);
+    }
+    if passed.settled {
+        node.log_up_to_date(rt, None);
+    }
+}
+
+/// Notes whether the node was held up since the last look, which the log says. Whoever is waited for has its time anew then.
+fn look_at_clock<N: Wait + Clock>(rt: &N, node: &Node, last: &mut LastLook, now: u64) {
+    if let Some(milliseconds) = last.look(now) {
+        node.catching_up.wait_anew(rt, now);
+        node.log_event(rt, Event::HeldUp { milliseconds });
     }
 }
 
@@ -50,12 +63,14 @@ fn pass<N: Wait + Clock>(rt: &N, node: &Node, now: u64) {
 fn keep_tables<N: Wait + Clock>(rt: &N, node: &Node, mut seat: Seat) {
     let mut purge = 0;
     let mut renewal = Renewal::new();
+    let mut last = LastLook::new(node.clock.milliseconds(rt));
     for _ in rt.forever() {
         let seen = node.changed.rings(rt);
         if node.stops() {
             return;
         }
         let now = node.clock.milliseconds(rt);
+        look_at_clock(rt, node, &mut last, now);
         let purges = now >= purge;
         if purges {
             purge = now.saturating_add(PURGING);
@@ -64,6 +79,8 @@ fn keep_tables<N: Wait + Clock>(rt: &N, node: &Node, mut seat: Seat) {
         look_at_numbers(rt, node);
         pass(rt, node, now);
         let time = if soon { KEEPING } else { IDLING };
+        // (the node's own work isn't a standstill)
+        last = LastLook::new(node.clock.milliseconds(rt));
         node.changed.wait(rt, seen, milliseconds(time));
     }
 }
@@ -93,17 +110,41 @@ fn end_log<N: Threads + Wait + Clock>(rt: &N, node: &Node, writer: JoinHandle<()
     }
 }
 
-/// Adds the lines of a start to the log: the program's version, the configuration's checksum, and the ports.
-fn log_start<N: Wait + Clock>(rt: &N, node: &Node, checksum: &[u8]) {
+/// What the log says of a configuration when its node starts.
+#[derive(Clone, Copy)]
+struct StartNotes<'a> {
+    checksum: &'a [u8],
+    warnings: &'a Warnings,
+}
+
+/// Adds the lines of a start to the log: the program's version, the configuration's checksum, what in it is surely meant otherwise, the
+/// ports, and whether the node is up to date at once, as without peers.
+fn log_start<N: Wait + Clock>(rt: &N, node: &Node, notes: StartNotes<'_>) {
     node.log_event(
         rt,
         Event::Start {
             version: VERSION.as_bytes(),
-            configuration: checksum,
+            configuration: notes.checksum,
             node: node.configuration.node.as_slice(),
         },
     );
+    log_warnings(rt, node, notes.warnings);
     log_ports(rt, node);
+    if node.catching_up.is_up_to_date(rt) {
+        node.log_up_to_date(rt, None);
+    }
+}
+
+/// Adds a line to the log for each warning of the configuration.
+fn log_warnings<N: Wait + Clock>(rt: &N, node: &Node, warnings: &Warnings) {
+    let mut said = warnings.said.as_slice();
+    for _ in 0..said.len() {
+        let Some((warning, more)) = cut(said, b'\n') else {
+            return;
+        };
+        node.log_event(rt, Event::ConfigurationWarning { warning });
+        said = more;
+    }
 }
 
 /// Starts the threads of the admin port. Returns whether all could be started.
@@ -219,7 +260,7 @@ where
     shows && start_peers(rt, scope, node, ports, peers)
 }
 
-/// Runs the threads of a node whose configuration has this checksum until it stops. Returns whether all could be started.
+/// Runs the threads of a node until it stops, of whose configuration the log says this. Returns whether all could be started.
 fn run_in<
     's,
     X: 's,
@@ -230,7 +271,7 @@ fn run_in<
     node: &'s Node,
     ports: &'s Ports,
     seats: Seats,
-    checksum: &[u8],
+    notes: StartNotes<'_>,
 ) -> bool
 where
     N::File: Send + Sync,
@@ -238,7 +279,7 @@ where
 {
     let starts = start_all(rt, scope, node, ports, seats);
     if starts {
-        log_start(rt, node, checksum);
+        log_start(rt, node, notes);
         node.start(rt);
         node.wait_to_stop(rt);
         node.log_event(rt, Event::Stop);
@@ -254,17 +295,18 @@ fn begun<N: Net<Listener = TcpListener, Stream = TcpStream> + Files + Clock>(
     rt: &N,
     alloc: Global,
     configuration: Configuration,
+    pid: u32,
 ) -> Result<(Node, Seats, Ports), StartError> {
     let clock = match NodeClock::new(rt) {
         Ok(clock) => clock,
         Err(error) => return Err(StartError::lacks(alloc, Need::Clock, "", &error)),
     };
-    let (node, seats) = Node::new(alloc, clock, configuration)?;
+    let (node, seats) = Node::new(alloc, clock, configuration, pid)?;
     let ports = Ports::open(rt, alloc, &node.configuration)?;
     Ok((node, seats, ports))
 }
 
-/// Runs the node of a configuration with this checksum until it stops, and writes its log to `log`.
+/// Runs the node of a configuration until it stops, and writes its log to `log`, which says this of the configuration.
 fn run_node<
     N: Net<Listener = TcpListener, Stream = TcpStream>
         + Files
@@ -280,20 +322,21 @@ fn run_node<
     rt: &N,
     alloc: Global,
     configuration: Configuration,
-    checksum: &[u8],
+    pid: u32,
+    notes: StartNotes<'_>,
     log: L,
 ) -> Result<(), StartError>
 where
     N::File: Send + Sync,
     N::Dir: Send + Sync,
 {
-    let (node, seats, ports) = begun(rt, alloc, configuration)?;
+    let (node, seats, ports) = begun(rt, alloc, configuration, pid)?;
     let Some(writer) = start_log(rt, &node, log) else {
         ports.remove_file(rt);
         return Err(StartError::no_thread(alloc));
     };
     let started = thread::scope(thread::scope_env(), rt, |scope| {
-        run_in(rt, scope, &node, &ports, seats, checksum)
+        run_in(rt, scope, &node, &ports, seats, notes)
     });
     ports.remove_file(rt);
     end_log(rt, &node, writer);
@@ -304,8 +347,10 @@ where
     }
 }
 
-/// Reads a configuration from `input`, and runs its node until a request stops it. Writes why it can't be run to `errors`, and its log to
-/// `log`; a log that can't be written, or only slowly, holds nothing up.
+/// Reads a configuration from `input`, and runs its node, in the process with the number `pid`, until a request stops it. Writes why it
+/// can't be run to `errors`, and its log to `log`; a log that can't be written, or only slowly, holds nothing up.
+///
+/// If a line of the configuration is `log journal`, each line to `errors` begins with the number of an error for systemd's journal.
 ///
 /// Ends with `Device` if a port can't be opened or a thread can't be started; `errors` then has a line that says which, and why. It
 /// opens all ports and starts all threads but the readers of connections before it connects to a peer, or takes a connection of one.
@@ -322,21 +367,31 @@ pub fn run<
     I: Read + Faults,
     E: Write + Faults,
     L: Write + Faults + Send + Drop + 'static,
->(rt: &N, alloc: Global, input: &mut I, errors: &mut E, log: L) -> Ending
+>(rt: &N, alloc: Global, pid: u32, input: &mut I, errors: &mut E, log: L) -> Ending
 where
     N::File: Send + Sync,
     N::Dir: Send + Sync,
 {
-    let mut input = Summed::new(input);
-    let configuration = match configuration_of(alloc, &mut input, errors) {
-        Ok(configuration) => configuration,
+    let text = match read_to_end(alloc, input) {
+        Ok(text) => text,
+        Err(error) => return Ending::from(error).said(alloc, errors),
+    };
+    let mut errors = Marked::new(errors, says_journal(text.as_slice()));
+    let mut given = Counting::new(text.as_slice());
+    let mut input = Summed::new(&mut given);
+    let (configuration, warnings) = match configuration_of(alloc, &mut input, &mut errors) {
+        Ok(read) => read,
         Err(ending) => return ending,
     };
     let Ok(checksum) = input.checksum(alloc) else {
-        return Ending::Memory.said(alloc, errors);
+        return Ending::Memory.said(alloc, &mut errors);
     };
-    match run_node(rt, alloc, configuration, checksum.as_bytes(), log) {
+    let notes = StartNotes {
+        checksum: checksum.as_bytes(),
+        warnings: &warnings,
+    };
+    match run_node(rt, alloc, configuration, pid, notes, log) {
         Ok(()) => Ending::Done,
-        Err(error) => error.said(alloc, errors),
+        Err(error) => error.said(alloc, &mut errors),
     }
 }

@@ -1,9 +1,9 @@
 //! A session with a peer, from its connection to its end.
 
-use crate::brought::Brought;
+use crate::brought::brought_on;
 use crate::clock::milliseconds;
 use crate::definitions::Comparison;
-use crate::ends::{end_of_closed, end_of_error};
+use crate::ends::{FailureCodes, cause_of, cause_text, end_of_closed, end_of_error};
 use crate::inbox::{Inbox, receive};
 use crate::intake::Intake;
 use crate::node::Node;
@@ -12,9 +12,10 @@ use crate::slot::Slot;
 use crate::status::Totals;
 use crate::tables::{close, forget, forget_all, number_of, reopen};
 use admin_port::{PassedOver, PeerRole, PeerState};
-use node_core::{Failure, PeerEvent, ResyncEnd, SessionEnd, Ticks, Traffic};
+use node_core::{Brought, Failure, NoSession, PeerEvent, ResyncEnd, SessionEnd, Ticks, Traffic};
+use node_log::pid_of;
 use peers_devices::Writes;
-use peers_engine::{AlwaysOpen, Outcome, Worker};
+use peers_engine::{AlwaysOpen, EngineError, Outcome, Worker};
 use peers_hello::{Hello, Status, read_status};
 use session_core::{Controls, Session, State};
 use std::alloc::AllocError;
@@ -66,7 +67,7 @@ fn session_of(
             let hello = Hello {
                 remote: peer.copy(alloc)?,
                 local: own,
-                pid: 1,
+                pid: node.pid,
                 relative: 1,
                 version,
             };
@@ -107,6 +108,8 @@ struct Work<'a, N> {
     writes: Writes,
     worker: Worker,
     role: PeerRole,
+    /// The pid that the peer's hello said, if it sent one.
+    pid: Option<u64>,
     /// Whether the session knows that the node is up to date.
     up_to_date: bool,
     /// Whether the session's hello was over.
@@ -125,6 +128,8 @@ struct Work<'a, N> {
     brought: Brought,
     /// Whether the session was teaching in a resync.
     teaching: bool,
+    /// The rows that were taught by the last look, and how many resyncs had ended by then in which the node was the teacher.
+    looked: (u64, u64),
     /// The turns in a row in which there was nothing to do.
     idle: usize,
     ticks: Ticks,
@@ -132,6 +137,8 @@ struct Work<'a, N> {
     left: Vec<u64>,
     /// Whether the log says that a table was passed over.
     passes_over: bool,
+    /// The error that ended the session, if one did.
+    error: Option<EngineError>,
     comparison: Comparison,
 }
 
@@ -140,6 +147,7 @@ impl<'a, N: Wait + Clock> Work<'a, N> {
     fn new(
         place: Place<'a, N>,
         role: PeerRole,
+        pid: Option<u64>,
         from: Intake<'a, N>,
         to: Outbox<'a, N>,
         worker: Worker,
@@ -160,6 +168,7 @@ impl<'a, N: Wait + Clock> Work<'a, N> {
             writes: Writes::none(),
             worker,
             role,
+            pid,
             up_to_date: false,
             begun: false,
             begun_at: 0,
@@ -169,10 +178,12 @@ impl<'a, N: Wait + Clock> Work<'a, N> {
             since: (0, 0),
             brought: Brought::nothing(),
             teaching: false,
+            looked: (0, 0),
             idle: 0,
             ticks: Ticks::new(node.clock.milliseconds(rt)),
             left: Vec::new(node.alloc),
             passes_over: false,
+            error: None,
             comparison: Comparison::new(),
         }
     }
@@ -257,6 +268,12 @@ impl<'a, N: Wait + Clock> Work<'a, N> {
         }
     }
 
+    /// Notes the error that ends the session, and returns why that is over.
+    fn fail(&mut self, error: EngineError) -> SessionEnd {
+        self.error = Some(error);
+        end_of_error(error)
+    }
+
     /// Notes what went over the connection.
     fn note_traffic(&mut self) {
         let controls = self.worker.session.controls();
@@ -303,7 +320,7 @@ impl<'a, N: Wait + Clock> Work<'a, N> {
         match turned {
             Ok(Outcome::Worked | Outcome::Idled) => self.look(now),
             Ok(Outcome::Closed) => Some(self.closed()),
-            Err(error) => Some(end_of_error(error)),
+            Err(error) => Some(self.fail(error)),
         }
     }
 
@@ -329,7 +346,7 @@ impl<'a, N: Wait + Clock> Work<'a, N> {
         match ticked {
             Ok(Outcome::Worked | Outcome::Idled) => None,
             Ok(Outcome::Closed) => Some(SessionEnd::Silent),
-            Err(error) => Some(end_of_error(error)),
+            Err(error) => Some(self.fail(error)),
         }
     }
 
@@ -350,7 +367,7 @@ impl<'a, N: Wait + Clock> Work<'a, N> {
         self.to.begin_turn();
         match self.worker.request(&mut self.to, &mut self.writes, now) {
             Ok(_) => None,
-            Err(error) => Some(end_of_error(error)),
+            Err(error) => Some(self.fail(error)),
         }
     }
 
@@ -373,12 +390,13 @@ impl<'a, N: Wait + Clock> Work<'a, N> {
         self.begun_at = now;
         let version = self.worker.session.version();
         let mut status = self.slot.status(self.rt);
-        status.begin(now, version);
+        let process = status.begin(now, version, self.pid);
         drop(status);
         self.node.catching_up.begin(self.rt, self.peer);
         self.log(PeerEvent::Connected {
             accepted: self.role == PeerRole::Accept,
             version: version.unwrap_or(Version::V21),
+            process,
         });
     }
 
@@ -401,24 +419,43 @@ impl<'a, N: Wait + Clock> Work<'a, N> {
         status.teaches = self.teaching;
     }
 
-    /// Notes whether the session has begun or ended a resync as the teacher.
+    /// Notes whether the session has begun or ended a resync as the teacher since the last look. It may have done both.
     fn look_at_teaching(&mut self) {
-        let teaching = self.worker.session.state() == State::Teaching;
-        if teaching == self.teaching {
-            return;
+        let counts = self.worker.session.counts();
+        let (taught, resyncs) = self.looked;
+        self.looked = (counts.taught, counts.resyncs);
+        let was_teaching = self.teaching;
+        self.teaching = self.worker.session.state() == State::Teaching;
+        if counts.resyncs > resyncs {
+            if !was_teaching {
+                self.begin_teaching(taught);
+            }
+            let end = self.resync_end();
+            self.end_teaching(end);
+            if self.teaching {
+                self.begin_teaching(counts.taught);
+            }
+        } else if self.teaching && !was_teaching {
+            self.begin_teaching(taught);
         }
-        self.teaching = teaching;
-        self.set_state();
-        if teaching {
-            self.rows.1 = self.worker.session.counts().taught;
-            self.since.1 = self.node.clock.milliseconds(self.rt);
+        if self.teaching != was_teaching {
+            self.set_state();
+        }
+    }
+
+    /// Notes that a resync has begun in which the node is the teacher, and how many rows were taught before it.
+    fn begin_teaching(&mut self, taught: u64) {
+        self.rows.1 = taught;
+        self.since.1 = self.node.clock.milliseconds(self.rt);
+    }
+
+    /// Returns how a resync ends now in which the node is the teacher.
+    fn resync_end(&self) -> ResyncEnd {
+        let left = self.worker.session.tables().iter().any(|table| table.left);
+        if self.up_to_date && !left {
+            ResyncEnd::Finished
         } else {
-            let left = self.worker.session.tables().iter().any(|table| table.left);
-            self.end_teaching(if self.up_to_date && !left {
-                ResyncEnd::Finished
-            } else {
-                ResyncEnd::Partial
-            });
+            ResyncEnd::Partial
         }
     }
 
@@ -473,7 +510,7 @@ impl<'a, N: Wait + Clock> Work<'a, N> {
     /// Notes that the peer has brought something, if it has since the last look.
     fn look_at_rows(&mut self) {
         let before = self.brought;
-        self.brought = Brought::of(&self.worker.session, self.from.total);
+        self.brought = brought_on(&self.worker.session, self.from.total);
         if self.asking.is_some() && self.brought.is_more_than(before) {
             let now = self.node.clock.milliseconds(self.rt);
             self.node.catching_up.hear(self.rt, self.peer, now);
@@ -530,10 +567,13 @@ impl<'a, N: Wait + Clock> Work<'a, N> {
         };
         let controls = self.worker.session.controls();
         if controls.finished > before.finished {
-            self.node.catching_up.finish(self.rt, self.peer);
+            let done = self.node.catching_up.finish(self.rt, self.peer);
             self.node.tell_of_catching_up(self.rt);
             self.end_learning(ResyncEnd::Finished);
             self.set_state();
+            if done {
+                self.node.log_up_to_date(self.rt, Some(self.peer));
+            }
         } else if controls.partial > before.partial {
             self.node.catching_up.finish_partly(self.rt, self.peer);
             self.node.tell_of_catching_up(self.rt);
@@ -591,8 +631,9 @@ impl<'a, N: Wait + Clock> Work<'a, N> {
         }
     }
 
-    /// Returns why a session is over that no error ended.
-    fn closed(&self) -> SessionEnd {
+    /// Returns why a session is over that no error ended. What else came in its last turn is noted before the fault.
+    fn closed(&mut self) -> SessionEnd {
+        self.look_at_last_turn();
         let fault = self.fault();
         if let Some(fault) = fault {
             self.node.faults.count(self.rt, fault);
@@ -603,8 +644,18 @@ impl<'a, N: Wait + Clock> Work<'a, N> {
         end_of_closed(fault.is_some(), self.from.ended)
     }
 
-    /// Notes that the session is over, and that a resync under way is broken.
+    /// Notes what the turn in which the session ended came to: a hello of the peer that was over, and the end of the resync that the session
+    /// was asked for.
+    fn look_at_last_turn(&mut self) {
+        if self.role == PeerRole::Accept && self.worker.session.version().is_some() {
+            self.begin();
+        }
+        self.look_at_asking();
+    }
+
+    /// Notes that the session is over, and that a resync under way is broken, unless it ended in the last turn.
     fn end(&mut self, end: SessionEnd) {
+        self.look_at_last_turn();
         if self.teaching {
             self.end_teaching(ResyncEnd::Broken);
         }
@@ -624,27 +675,61 @@ impl<'a, N: Wait + Clock> Work<'a, N> {
         self.log_end(end, far);
     }
 
-    /// Adds a line to the log about the end of the connection with this far end, unless it is news of nothing: a session that didn't begin
-    /// ended as the one before, or for another connection.
+    /// Adds a line to the log about the end of the connection with this far end, unless it is news of nothing: an attempt failed as the one
+    /// before, or was given up.
     fn log_end(&self, end: SessionEnd, far: Option<SocketAddr>) {
-        let (begun, status) = (self.begun, self.refusal());
-        if !begun {
-            let failure = match status {
-                Some(status) => Failure::Refused(status),
-                None => Failure::Ended(end),
-            };
-            if !self.is_attempt(end) || !self.slot.status(self.rt).fail(failure) {
-                return;
+        let cause = self.cause(end);
+        if self.begun {
+            self.log_event_at(
+                far,
+                PeerEvent::Ended {
+                    end,
+                    cause: cause.as_bytes(),
+                },
+            );
+        } else if self.is_attempt(end) {
+            match self.refusal() {
+                Some(status) => self.log_refusal(far, status),
+                None => self.log_no_session(end, far, cause.as_bytes()),
             }
         }
-        let event = match status {
-            Some(status) if !begun => PeerEvent::Refused {
-                status,
-                node: self.node.configuration.node.as_slice(),
-            },
-            _ => PeerEvent::Ended { begun, end },
-        };
+    }
+
+    /// Adds a line about the peer to the log, at a connection with this far end.
+    fn log_event_at(&self, far: Option<SocketAddr>, event: PeerEvent<'_>) {
         self.node.log_peer_event_at(self.rt, self.peer, far, event);
+    }
+
+    /// Returns what is known of why the session ended so, in words that stand behind "ended", or nothing if memory runs out.
+    fn cause(&self, end: SessionEnd) -> String {
+        let alloc = self.node.alloc;
+        let codes = FailureCodes {
+            read: self.from.code(),
+            write: self.to.code,
+        };
+        cause_text(alloc, end, self.error, codes).unwrap_or(String::new(alloc))
+    }
+
+    /// Notes why an attempt of this node failed. Returns whether the one before failed otherwise, if it did.
+    fn is_news(&self, failure: Failure) -> bool {
+        let mut status = self.slot.status(self.rt);
+        status.fail(failure)
+    }
+
+    /// Notes that the peer refused this node's hello, and adds a line to the log if that is news.
+    fn log_refusal(&self, far: Option<SocketAddr>, status: u16) {
+        if self.is_news(Failure::Refused(status)) {
+            let node = self.node.configuration.node.as_slice();
+            self.log_event_at(far, PeerEvent::Refused { status, node });
+        }
+    }
+
+    /// Notes why an attempt of this node that ended so came to no session, and adds a line to the log if that is news.
+    fn log_no_session(&self, end: SessionEnd, far: Option<SocketAddr>, cause: &[u8]) {
+        let why = cause_of(end, self.from.head());
+        if self.is_news(Failure::NoSession(why)) {
+            self.log_event_at(far, PeerEvent::NoSession { why, cause });
+        }
     }
 
     /// Returns whether the connection that ended so was an attempt of this node that nobody gave up.
@@ -667,7 +752,8 @@ impl<'a, N: Wait + Clock> Work<'a, N> {
 /// Holds a session over a connection until it ends. Gives the seat back, and returns whether the session fell back: whether the peer
 /// refused version 2.1, which the node's hello said. While the session stands, its worker owns the seat.
 ///
-/// The connection is noted first. So whoever ends all sessions either shuts it down, or is seen here to do so.
+/// It notes the connection before it looks whether sessions are to end. So a thread that ends all sessions finds the connection noted and
+/// shuts it down; or it had begun before, and this function sees that and begins no session.
 pub(crate) fn hold<N: Threads + Wait + Clock + Sync>(
     place: &Place<'_, N>,
     mut seat: Seat,
@@ -720,10 +806,12 @@ fn give_up<N: Wait + Clock>(place: &Place<'_, N>) {
     let end = SessionEnd::Error;
     let mut status = place.slot.status(rt);
     status.end(end, now);
-    let is_news = status.fail(Failure::Ended(end));
+    let why = NoSession::Lacking;
+    let is_news = status.fail(Failure::NoSession(why));
     drop(status);
     if is_news {
-        node.log_peer_event(rt, place.peer, PeerEvent::Ended { begun: false, end });
+        let cause = &[];
+        node.log_peer_event(rt, place.peer, PeerEvent::NoSession { why, cause });
     }
 }
 
@@ -745,6 +833,7 @@ fn hold_over<N: Threads + Wait + Clock + Sync>(
     bytes: Vec<u8>,
 ) -> Worker {
     let (rt, node, slot) = (place.rt, place.node, place.slot);
+    let pid = pid_of(bytes.as_slice());
     let inbox = Inbox::new(bytes);
     let mut status = slot.status(rt);
     status.connect(role, stream.peer_addr().ok());
@@ -757,7 +846,7 @@ fn hold_over<N: Threads + Wait + Clock + Sync>(
         slot: &*slot,
         peer: place.peer,
     };
-    let mut work = Work::new(here, role, from, to, worker);
+    let mut work = Work::new(here, role, pid, from, to, worker);
     work.catch_up();
     work_and_read(rt, &mut work, stream, &inbox, slot);
     let Work { worker, .. } = work;

@@ -1,7 +1,9 @@
 //! What is known of a peer, for those who ask.
 
 use admin_port::{PassedOver, PeerRole, PeerState, ResyncsEnded, SessionsEnded};
-use node_core::{Difference, Failure, LastError, Reaching, ResyncEnd, SessionEnd, rests_until};
+use node_core::{
+    Difference, Failure, LastError, LastPid, Process, Reaching, ResyncEnd, SessionEnd, rests_until,
+};
 use session_core::TableTally;
 use std::alloc::{AllocError, Global};
 use std::net::SocketAddr;
@@ -84,6 +86,8 @@ pub(crate) struct PeerStatus {
     pub(crate) last_end: Option<SessionEnd>,
     /// The far end of the connection, if there is one.
     pub(crate) far: Option<SocketAddr>,
+    /// The pid that the last hello of the peer said.
+    pid: LastPid,
     /// What became of the attempts to have a session since the last one began.
     reaching: Reaching,
     /// Why there is no session, as far as it is known.
@@ -97,6 +101,10 @@ pub(crate) struct PeerStatus {
     /// What differs first between the node's definition of each table and the one that the peer has given on the session that stands, in
     /// ascending order of id.
     pub(crate) differences: Vec<Option<Difference>>,
+    /// How many tables the peer has defined on the session that stands that this node lacks.
+    pub(crate) unshared: u64,
+    /// How many of the node's tables it hadn't defined on a session on which it taught all it had, and hasn't defined since.
+    pub(crate) undefined: u64,
     pub(crate) ended: SessionsEnded,
     pub(crate) resyncs_taught: ResyncsEnded,
     pub(crate) resyncs_learned: ResyncsEnded,
@@ -136,12 +144,15 @@ impl PeerStatus {
             faulted: [None; 3],
             last_end: None,
             far: None,
+            pid: LastPid::new(),
             reaching: Reaching::new(),
             last_error: None,
             before: Totals::none(),
             present: Totals::none(),
             tables: Vec::new(alloc),
             differences: Vec::new(alloc),
+            unshared: 0,
+            undefined: 0,
             ended: SessionsEnded {
                 end: 0,
                 silent: 0,
@@ -189,14 +200,12 @@ impl PeerStatus {
     /// Notes that an attempt of the node to have a session failed. Returns whether that is news.
     pub(crate) fn fail(&mut self, failure: Failure) -> bool {
         let news = self.reaching.fail(failure);
-        if !matches!(failure, Failure::Ended(_)) {
-            self.last_error = self.reaching.last_error();
-        }
+        self.last_error = self.reaching.last_error();
         news
     }
 
     /// Notes that a hello of the peer was refused with this status. Returns whether that is news. It is no reason why there is no session
-    /// while one stands, nor later, when an attempt ends before its status.
+    /// while one stands.
     pub(crate) fn refuse(&mut self, status: u16) -> bool {
         let news = self.reaching.refuse(status);
         if self.state == PeerState::Down {
@@ -218,14 +227,21 @@ impl PeerStatus {
         self.present = Totals::none();
     }
 
-    /// Notes that the session's hello is over, and the version that the session speaks.
-    pub(crate) fn begin(&mut self, now: u64, version: Option<Version>) {
+    /// Notes that the session's hello is over, the version that the session speaks, and the pid that the peer's hello said, if it sent
+    /// one. Returns what that says of the peer's process.
+    pub(crate) fn begin(
+        &mut self,
+        now: u64,
+        version: Option<Version>,
+        pid: Option<u64>,
+    ) -> Process {
         self.since = now;
         self.version = version;
         self.reaching = Reaching::new();
         self.last_error = None;
         self.sessions = self.sessions.saturating_add(1);
         self.state = PeerState::Ready;
+        self.pid.greet(pid)
     }
 
     /// Notes what the session that stands did so far.
@@ -249,7 +265,7 @@ impl PeerStatus {
         count_resync(&mut self.resyncs_learned, end);
     }
 
-    /// Notes that the connection ended, and counts that, unless it was given up before a session began.
+    /// Notes that the connection ended, unless it was given up before a session began. Counts the end of a session that had begun.
     pub(crate) fn end(&mut self, end: SessionEnd, now: u64) {
         let begun = self.stands();
         self.state = PeerState::Down;
@@ -262,15 +278,17 @@ impl PeerStatus {
         self.present = Totals::none();
         self.tables.clear();
         self.differences.clear();
+        self.unshared = 0;
+        if begun {
+            self.count(end);
+        }
         if begun || end != SessionEnd::Replaced {
-            self.count(end, now);
+            self.note_end(end, now);
         }
     }
 
     /// Counts the end of a session.
-    fn count(&mut self, end: SessionEnd, now: u64) {
-        self.since = now;
-        self.last_end = Some(end);
+    fn count(&mut self, end: SessionEnd) {
         let count = match end {
             SessionEnd::End => &mut self.ended.end,
             SessionEnd::Silent => &mut self.ended.silent,
@@ -280,6 +298,12 @@ impl PeerStatus {
             SessionEnd::Error => &mut self.ended.error,
         };
         *count = count.saturating_add(1);
+    }
+
+    /// Notes when a connection ended and why, and counts the fault if the peer had one.
+    fn note_end(&mut self, end: SessionEnd, now: u64) {
+        self.since = now;
+        self.last_end = Some(end);
         if end == SessionEnd::Fault {
             self.faults = self.faults.saturating_add(1);
             self.faulted = [Some(now), self.faulted[0], self.faulted[1]];

@@ -5,7 +5,7 @@ ghost use Rattle.std.specs.Io.{ReadsAtMost, WritesAtMost};
 use crate::clock::milliseconds;
 use std::io;
 use std::io::{Read, Write};
-use std::net::{Shutdown, TcpListener, TcpStream};
+use std::net::{Shutdown, SocketAddr, TcpListener, TcpStream};
 use std::os::fd::OwnedFd;
 use std::os::unix::net::{UnixListener, UnixStream};
 
@@ -35,6 +35,14 @@ impl Stream {
         match self {
             Stream::Tcp(stream) => stream.set_write_timeout(Some(milliseconds(time))),
             Stream::Unix(stream) => stream.set_write_timeout(Some(milliseconds(time))),
+        }
+    }
+
+    /// Returns the address of the far end, if it has one.
+    pub(crate) fn far(&self) -> Option<SocketAddr> {
+        match self {
+            Stream::Tcp(stream) => stream.peer_addr().ok(),
+            Stream::Unix(_) => None,
         }
     }
 

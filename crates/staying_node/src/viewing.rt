@@ -4,9 +4,8 @@ use crate::measuring::{health, metrics};
 use crate::node::Node;
 use crate::reading::{After, Reading};
 use admin_port::{
-    Answer, Extent, HttpRequest, Page, push_answer, push_health, push_method_not_allowed,
-    push_metrics, push_missing_page, push_overview, push_ready, push_refused,
-    push_version_not_supported,
+    Extent, HttpRequest, Page, push_health, push_method_not_allowed, push_metrics,
+    push_missing_page, push_overview, push_ready, push_version_not_supported,
 };
 use std::alloc::AllocError;
 use std::fs::Files;
@@ -72,7 +71,7 @@ impl<'a> Viewer<'a> {
         if !reading.is_long() {
             return Ok(true);
         }
-        push_answer(&mut reading.answers, Answer::Refused)?;
+        reading.refuse_long()?;
         reading.write(output)?;
         Ok(false)
     }
@@ -87,20 +86,20 @@ impl<'a> Viewer<'a> {
             return Ok(After::Closes);
         }
         if reading.is_long() {
-            push_answer(&mut reading.answers, Answer::Refused)?;
+            reading.refuse_long()?;
             return Ok(After::Closes);
         }
         match self.answer_http(rt, reading)? {
             Some(after) => Ok(after),
             None => {
-                push_refused(&mut reading.answers, reading.line.as_slice())?;
+                reading.refuse()?;
                 Ok(After::Closes)
             }
         }
     }
 
-    /// Answers a line of an HTTP request: its first one, or one of its head, of which the empty one at the end is answered with the
-    /// page. Returns `None` for any other line.
+    /// Reads a line of an HTTP request, which is its first one or a line of its head. Appends the page that the request asks for at the
+    /// empty line that ends the head. Returns `None` for any other line.
     pub(crate) fn answer_http<R: Wait + Clock + Files>(
         &self,
         rt: &R,

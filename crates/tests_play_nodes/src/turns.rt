@@ -53,7 +53,7 @@ pub(crate) fn is_so<H: Wait>(rt: &H, alloc: Global, side: &mut Side, turn: &Exch
     goes_so(rt, alloc, side, &mut Waiting::new(turn.comes), turn)
 }
 
-/// Takes the first turn of a side, which finds nothing to read. Returns whether it makes one write, of so many bytes.
+/// Takes the first turn of a side, which finds nothing to read. Returns whether the side makes just one write, of `length` bytes.
 pub fn writes_once<H: Wait>(
     rt: &H,
     alloc: Global,

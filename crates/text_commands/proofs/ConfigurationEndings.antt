@@ -10,7 +10,7 @@ use Rattle.admin_text.specs.Warnings.{AreWarningsOf}
 use Rattle.admin_text.specs.declared.configurations.Configuration.{Configuration}
 use Rattle.admin_text.specs.declared.refusals.Refusal.{Refusal}
 use Rattle.admin_text.specs.declared.warnings.Warnings.{Warnings}
-use Rattle.text_commands.specs.Configuring.{EndsConfiguration, IsInput, IsSaid}
+use Rattle.text_commands.specs.Configuring.{EndsConfiguration, IsInput, IsSaid, IsWarned}
 use Rattle.text_commands.specs.declared.endings.Ending.{Ending}
 use Rattle.text_commands.specs.declared.endings.Ending.TheVariants as endings
 
@@ -25,6 +25,11 @@ done_differs same = cc
 
 differ : endings.Configuration ≡ endings.Device → ⊥
 differ same = cc
+
+-- what in it is surely meant otherwise
+pub input_warned : (bytes : Option (List ℕ)) (text : List ℕ) (warnings : Warnings) → IsInput bytes text → IsFaultless (statements_of text)
+    → AreWarningsOf (statements_of text) warnings → IsWarned bytes warnings.said.items
+input_warned bytes text warnings input is warned = (text, warnings, input, is, warned, refl)
 
 -- its lines are written, or the device failed
 pub refusal_said : (bytes before after : Option (List ℕ)) (ending : Ending) (text : List ℕ) (refusal : Refusal) → IsInput bytes text

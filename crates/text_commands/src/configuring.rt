@@ -2,10 +2,10 @@
 ghost use Rattle.std.specs.Prelude.{◌≡◌, ◌≢◌, ◌⊎◌, IfErr, IfOk, OnOk};
 ghost use Rattle.std.specs.Io.KnownBytes.{Appends};
 ghost use Rattle.admin_text.specs.Configurations.{IsConfiguration};
-ghost use Rattle.text_commands.specs.Configuring.{EndsConfiguration, IsSaid, IsTaken};
+ghost use Rattle.text_commands.specs.Configuring.{EndsConfiguration, IsSaid, IsTaken, IsWarned};
 
 use crate::endings::Ending;
-use admin_text::{Configuration, ConfigurationError, checked_configuration, read_configuration};
+use admin_text::{Configuration, ConfigurationError, Warnings, checked_configuration};
 use peers_devices::{Faults, read_to_end, write_all};
 use std::alloc::Global;
 use std::io::{Read, Write};
@@ -36,13 +36,15 @@ pub fn check_configuration<R: Read + Faults, E: Write + Faults>(
     }
 }
 
-/// Returns the configuration that `input` has, or how the subcommand ends without one. Then `errors` has the lines that say why.
+/// Returns the configuration that `input` has, with what in it is surely meant otherwise, or how the subcommand ends without one. Then
+/// `errors` has the lines that say why.
 pub fn configuration_of<R: Read + Faults, E: Write + Faults>(
     alloc: Global,
     input: &mut R,
     errors: &mut E,
-) -> Result<Configuration, Ending>
-    ensures configuration { IfOk result IsConfiguration }
+) -> Result<(Configuration, Warnings), Ending>
+    ensures configuration { IfOk result (λ read. IsConfiguration read.0) }
+    ensures warned { IfOk result (λ read. IsWarned (R.remaining input.old) read.1.said.items) }
     ensures silent { OnOk result (E.contents errors.new ≡ E.contents errors.old) }
     ensures faultless { OnOk result (IsTaken (R.remaining input.old)) }
     ensures refused { IfErr result (λ ending. (ending ≢ Ending.Done) × EndsConfiguration ending) }
@@ -52,8 +54,8 @@ pub fn configuration_of<R: Read + Faults, E: Write + Faults>(
         Ok(text) => text,
         Err(error) => return Err(Ending::from(error).said(alloc, errors)),
     };
-    match read_configuration(alloc, text.as_slice()) {
-        Ok(configuration) => Ok(configuration),
+    match checked_configuration(alloc, text.as_slice()) {
+        Ok(checked) => Ok(checked),
         Err(ConfigurationError::Refused(refusal)) => Err(said(
             errors,
             refusal.said.as_slice(),

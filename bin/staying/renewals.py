@@ -1,0 +1,135 @@
+"""Tables whose numbers are used up, which get new ones. To use them up takes 2^31 changes, some hours of them; so these checks run a copy of
+the program in which that number is a lower one, at the one place where its code has it."""
+
+import os
+import re
+import struct
+import tempfile
+import time
+
+from checks.refusing import symbols
+from peering.far import Door, connected
+from peering.lessons import table
+from peering.node import T1, Node, address
+from peering.trial import PATIENCE, Skipped, between, check, equal, require, wait
+from staying.lacking import Refuser, at_rest, attempted, has_seven
+from staying.resyncs import T2, tracked
+from staying.sessions import up_to_date
+
+# The next number of a table from which on it gets new ones, as the program has it, and as its copy does.
+MANY, FEW = 1 << 31, 1 << 10
+# The function that looks at it, if the program has that by itself; the one that it is a part of otherwise calls the other one.
+LOOKS, RENUMBERS = b'staying_node::tables::is_spent', b'table_cell::cell::TableCell::renumber'
+# A shift of a register to the right by 31 bits, and the last of its bytes.
+SHIFT, BITS = re.compile(rb'[\x48\x49]\xc1[\xe8-\xef]\x1f'), 3
+
+
+def place_in_file(data, address):
+    """Returns where in a program's file an address is."""
+    headers, size, count = struct.unpack_from('<Q', data, 32)[0], *struct.unpack_from('<HH', data, 54)
+    for at in range(headers, headers + size * count, size):
+        kind, _, offset, begins, _, length = struct.unpack_from('<IIQQQQ', data, at)
+        if kind == 1 and begins <= address < begins + length:
+            return address - begins + offset
+    return None
+
+
+def calls(code, begin, target):
+    """Whether code at an address calls a function at another."""
+    return any(begin + at + 5 + struct.unpack_from('<i', code, at + 1)[0] == target for at in range(len(code) - 4) if code[at] == 0xe8)
+
+
+def places_of_number(data):
+    """Returns where a program has the number, each with the bytes to put there."""
+    functions = {name: (begin, size) for name, begin, size in symbols(data) if size}
+    found = []
+    for name, (begin, size) in functions.items():
+        at = place_in_file(data, begin) if name == LOOKS or name.startswith(b'core::scope::entry') else None
+        code = data[at:at + size] if at else b''
+        if name == LOOKS:
+            found += [(at + match.start(), struct.pack('<I', FEW)) for match in re.finditer(re.escape(struct.pack('<I', MANY)), code)]
+        elif code and LOOKS not in functions and calls(code, begin, functions[RENUMBERS][0]):
+            found += [(at + match.start() + BITS, bytes((FEW.bit_length() - 1,))) for match in SHIFT.finditer(code)]
+    return found
+
+
+class Copy:
+    """A copy of a program, with the lower number."""
+
+    def __init__(self, program):
+        with open(program, 'rb') as file:
+            data = file.read()
+        places = places_of_number(data)
+        if len(places) != 1:
+            raise Skipped('the program has the number at %d places that are known' % len(places))
+        (at, some), = places
+        self.directory = tempfile.TemporaryDirectory()
+        self.name = os.path.join(self.directory.name, 'peers_node')
+        with open(self.name, 'wb', opener=lambda name, flags: os.open(name, flags, 0o700)) as file:
+            file.write(data[:at] + some + data[at + len(some):])
+
+    def close(self):
+        self.directory.cleanup()
+
+
+def of_few_numbers(trial, of=Node, **other):
+    """Returns such a node, whose peer b has connected."""
+    node = of(trial, tables=(T1, T2), **other)
+    node.program = trial.closes(Copy(trial.program)).name
+    node.start()
+    far = connected(trial, node)
+    up_to_date(node)
+    return node, far
+
+
+def next_number(node, name):
+    return node.metric('digbaro_table_next_number{name="%s"}' % name)
+
+
+@check
+def renewal(trial):
+    """a table whose numbers are used up gets new ones, for which all sessions end and begin again, and no row is lost"""
+    door = Door(trial)
+    node, far = of_few_numbers(trial, peers=('b', 'c ' + address(door.port)))
+    other = door.far()
+    tracked(node, 't2', range(3))
+    tracked(node, 't1', range(FEW - 2))
+    wait(lambda: len(far.rows('t1')) == len(other.rows('t1')) == FEW - 2, PATIENCE, 'the rows')
+    time.sleep(1)
+    equal((node.logged('renewed'), node.logged('ended')), ([], []), 'lines one number before')
+    far.stands()
+    tracked(node, 't1', [7])
+    said, = node.logs('renewed', seconds=5)
+    equal((said.level, said.keys), ('info', {'table': 't1'}), 'the line')
+    far.ends(2)
+    other.ends(2)
+    node.logs('ended', peer='b', end='end')
+    wait(lambda: (next_number(node, 't1'), next_number(node, 't2')) == (FEW - 1, 4), 2, 'the next numbers', node.metrics)
+    far, other = connected(trial, node), door.far(1, 8)
+    for one in (far, other):
+        wait(lambda one=one: len(one.rows('t1')) == FEW - 2 and len(one.rows('t2')) == 3, PATIENCE, 'all rows again', one.shown)
+        equal(one.rows('t1')[(7).to_bytes(4, 'big')], ((2,), None), 'the row that changed last')
+        equal([update.number for update in one.updates('t1')], list(range(1, FEW - 1)), 'the numbers of the rows')
+    node.ask('track t1 8 add gpc0 1')
+    far.gets_row('t1', 8, (2,), 2)
+    far.stands()
+
+
+@check
+def renewal_of_a_table_left_open(trial):
+    """a table in which a session stayed open for want of memory gets new numbers all the same, and the peer is served again"""
+    node, far = of_few_numbers(trial)
+    tracked(node, 't1', range(FEW - 2))
+    wait(lambda: len(far.rows('t1')) == FEW - 2, PATIENCE, 'the rows')
+    before, refuser = at_rest(node), Refuser(trial, node)
+    refuser.tell('refuse')
+    far.close()
+    time.sleep(1)
+    refuser.tell('allow')
+    equal(node.events(), before, 'events, of which the end of a session is one in each table')
+    tracked(node, 't1', [7])
+    node.logs('renewed', seconds=5, table='t1')
+    far = attempted(trial, node)
+    require(far and has_seven(far), 'the peer is served')
+    wait(lambda: len(far.rows('t1')) == FEW - 2, PATIENCE, 'all rows again', far.shown)
+    between(0, node.stop(), 5, 'seconds until it has ended')

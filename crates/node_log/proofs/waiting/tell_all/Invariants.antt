@@ -1,0 +1,5 @@
+use Rattle.node_log.proofs.Telling.{AreToldTo}
+use Rattle.node_log.proofs.waiting.tell_all.Given as goal
+
+abbrev pub invariant-loop-limited : goal.invariant-loop-limited
+invariant-loop-limited l = AreToldTo l.form l.names l.now l.last l.fn.limits l.limits l.fn.text.items l.text.items l.limited-index
