@@ -90,9 +90,13 @@ long_configurations() {
 # Standard input that can't be read, standard error that can't be written, and too little memory.
 configuration_devices() {
     run run --check </
-    ends 'run --check: standard input is a directory' 4 '' $'device\n'
+    ends 'run --check: standard input is a directory' 4 '' $'configuration: Is a directory\n'
     run run --check <&-
-    ends 'run --check: standard input is closed' 4 '' $'device\n'
+    ends 'run --check: standard input is closed' 4 '' $'configuration: Bad file descriptor\n'
+    run run </
+    ends 'run: standard input is a directory' 4 '' $'configuration: Is a directory\n'
+    run run <&-
+    ends 'run: standard input is closed' 4 '' $'configuration: Bad file descriptor\n'
     keep errors_are_full run --check </dev/null
     ends 'run --check: standard error is full' 4 '' ''
     repeat 100000000 '#' >"$scene"

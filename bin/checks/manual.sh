@@ -1,12 +1,12 @@
 # Checks of the manual page of `run`, of the configurations that it shows, of the unit, and of the alerts. They stand in a file of their
-# own, which bin/test reads. What can't be checked here is said, and not counted.
+# own, which bin/test reads. What can't be checked here is said, and not counted; with DIGBARO_ALL_CHECKS=1 it fails.
 
 page=docs/peers_node.8
 
 # has COMMAND WHAT: whether the command is there. If not, says that WHAT isn't checked.
 has() {
     command -v "$1" >/dev/null && return
-    echo "skipped: no $1 for $2"
+    if [ "${DIGBARO_ALL_CHECKS-}" = 1 ]; then fail "no $1 for $2"; else echo "skipped: no $1 for $2"; fi
     return 1
 }
 

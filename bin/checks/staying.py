@@ -6,14 +6,16 @@
   staying.py --list               the names of the checks, and what each of them is about
 
 For each check it prints a line `passed NAME`, `FAILED NAME: WHY` or `skipped NAME: WHY`, and at the end how many passed and failed; the
-status is 0 only if none failed and one at least passed. A check that is skipped counts as neither. One that failed beside the others is
-tried once more by itself, as up to three may be; more of them have failed."""
+status is 0 only if none failed and one at least passed. A check that is skipped counts as neither; with DIGBARO_ALL_CHECKS=1 it has failed.
+One that failed beside the others, and of which only a time was wrong, is tried once more by itself, as up to three may be; more of them
+have failed."""
 
 import os
 import signal
 import sys
 import time
 import traceback
+from collections import namedtuple
 from concurrent.futures import ThreadPoolExecutor, TimeoutError as NotYet
 
 sys.dont_write_bytecode = True
@@ -21,7 +23,7 @@ top = os.path.dirname(os.path.dirname(os.path.dirname(os.path.abspath(__file__))
 sys.path[0] = os.path.join(top, 'bin')
 
 from peering.ports import Ports  # noqa: E402, since the path has to be set first
-from peering.trial import CHECKS, Skipped, Trial, Wrong  # noqa: E402
+from peering.trial import CHECKS, Late, Skipped, Trial, Wrong  # noqa: E402
 from staying import (  # noqa: E402, F401
     balancers, clocks, definitions, hostile, lacking, logs, measures, memory, meshes, ports, renewals, requests, resyncs,
     sessions, starting,
@@ -35,12 +37,17 @@ AGAIN = 3
 # Those that take longest, which begin first.
 LONGEST = """asks-again-after-a-minute clock-heartbeats clock-jumps clock-of-a-mute-peer three-faults idle-clients metrics-idle
     million-changes each-allocation-of-a-session soak memory-of-many-clients stops-beside-scrapes clock-of-slow-clients clock-of-lags
-    suspended  sends-without-pause clock-of-a-peer-without-end haproxy-starts-again haproxy-that-connects
+    suspended drains-slowly clock-of-renewals sends-without-pause clock-of-an-endless-peer haproxy-starts-again haproxy-that-connects
     haproxy-that-is-connected-to haproxy-of-version-2-0 haproxy-that-differs haproxy-that-differs-otherwise lacking-tables
     many-tables-differ deaf stops-beside-the-deaf heartbeats heartbeats-of-a-connector idle bytes-are-enough a-byte-a-second reads-slowly
     silent silent-to-a-connector two-of-three-killed killed-and-started-again stopped-and-started-again no-answer-to-a-hello
     refused-by-a-status falls-back""".split()
 
+
+# Whether a check that can't be made here has failed.
+ALL = os.environ.get('DIGBARO_ALL_CHECKS') == '1'
+# What became of a check: the first word of its line, why it failed or was skipped, and whether only a time was wrong.
+Result = namedtuple('Result', 'word why is_late')
 
 trials = []
 
@@ -55,22 +62,37 @@ def give_up(*_):
 
 
 def tried(program, ports, function):
-    """Returns the first word of a check's line, and why it failed or was skipped."""
+    """Makes a check, and returns what became of it."""
     trial = Trial(program, ports)
     trials.append(trial)
-    wrongs, skipped = [], None
+    wrongs, skipped, is_late = [], None, False
     try:
         function(trial)
     except Wrong as wrong:
-        wrongs = [str(wrong)]
+        wrongs, is_late = [str(wrong)], isinstance(wrong, Late)
     except Skipped as why:
         skipped = str(why)
     except Exception:  # A check that breaks down has failed.
         wrongs = [traceback.format_exc()]
-    wrongs += trial.finish()
-    if wrongs:
-        return 'FAILED', '; '.join(wrongs).replace('\n', ' | ')
-    return ('passed', None) if skipped is None else ('skipped', skipped)
+    at_its_end = trial.finish()
+    if skipped is not None and ALL:
+        wrongs = ['it is skipped: ' + skipped]
+    if wrongs or at_its_end:
+        return Result('FAILED', '; '.join(wrongs + at_its_end).replace('\n', ' | '), is_late and not at_its_end)
+    return Result('passed', None, False) if skipped is None else Result('skipped', skipped, False)
+
+
+def result_of(check, latest):
+    """Waits until a check has ended, until some moment at the latest, and returns what became of it."""
+    try:
+        return check.result(max(0, latest - time.monotonic()))
+    except NotYet:
+        return Result('FAILED', 'it has not ended in time', False)
+
+
+def tell(word, name, why):
+    """Prints the line of a check."""
+    print(word, name if why is None else '%s: %s' % (name, why), flush=True)
 
 
 def in_order(names):
@@ -81,26 +103,23 @@ def in_order(names):
 def run(program, names):
     """Runs checks, prints a line for each, and returns the status."""
     ports, counts = Ports(), dict.fromkeys(('passed', 'FAILED', 'skipped'), 0)
-    begun = time.monotonic()
+    begun, again = time.monotonic(), []
     pool = ThreadPoolExecutor(AT_ONCE)
     running = [(name, pool.submit(tried, program, ports, CHECKS[name])) for name in in_order(names)]
-    again = []
     for name, check in running:
-        try:
-            word, why = check.result(max(0, begun + LIMIT - time.monotonic()))
-        except NotYet:
-            word, why = 'FAILED', 'it has not ended after %d s' % LIMIT
-        if word == 'FAILED' and check.done() and len(names) > 1 and len(again) < AGAIN:
+        word, why, is_late = result_of(check, begun + LIMIT)
+        if is_late and len(names) > 1 and len(again) < AGAIN:
             again.append(name)
-            print('again %s: %s' % (name, why), flush=True)
+            tell('again', name, why)
             continue
         counts[word] += 1
-        print(word, name if why is None else '%s: %s' % (name, why), flush=True)
+        tell(word, name, why)
     # A check that failed beside the others, which may have kept it from its times, is tried once more by itself.
     for name in again:
-        word, why = tried(program, ports, CHECKS[name])
+        running.append((name, pool.submit(tried, program, ports, CHECKS[name])))
+        word, why, _ = result_of(running[-1][1], begun + LIMIT)
         counts[word] += 1
-        print(word, name if why is None else '%s: %s' % (name, why), flush=True)
+        tell(word, name, why)
     print('%d passed, %d failed, %d skipped, %d tried again, in %.0f s' % (*counts.values(), len(again), time.monotonic() - begun), flush=True)
     if not all(check.done() for _, check in running):
         give_up()

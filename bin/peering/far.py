@@ -16,7 +16,7 @@ from collections import namedtuple
 
 from fuzzing.messages import ACKNOWLEDGEMENT, TABLE_CLASS, acknowledgement, decoded, framed, framed_length
 from peering.lessons import Lessons, Misread
-from peering.trial import PATIENCE, require, wait
+from peering.trial import PATIENCE, Late, require, wait
 
 REQUEST, FINISHED, PARTIAL, CONFIRMED, HEARTBEAT = (bytes((0, at)) for at in range(5))
 PROTOCOL_ERROR, SIZE_LIMIT = b'\1\0', b'\1\1'
@@ -58,7 +58,7 @@ def status_of(peer, seconds=PATIENCE):
     except ConnectionError:
         pass
     except socket.timeout:
-        require(False, 'a hello is not answered in %g s' % seconds, line)
+        require(False, 'a hello is not answered in %g s' % seconds, line, wrong=Late)
     return line
 
 

@@ -9,7 +9,7 @@ import tempfile
 import time
 
 from peering.logs import all_said, chosen
-from peering.trial import PATIENCE, equal, matches, require, wait
+from peering.trial import PATIENCE, Late, equal, matches, require, wait
 
 FIRST_MOMENT = 2 ** 32
 T1 = 'table 1 t1 integer 4 0 gpc0'
@@ -39,7 +39,7 @@ class Admin:
             except ConnectionError:
                 came = b''
             except socket.timeout:
-                require(False, 'the admin port does not answer in %g s' % seconds, self.left)
+                require(False, 'the admin port does not answer in %g s' % seconds, self.left, wrong=Late)
             if not came:
                 require(not self.left, 'half a line of the admin port:', self.left)
                 return None
@@ -70,7 +70,7 @@ class Admin:
         except ConnectionError:
             pass
         except socket.timeout:
-            require(False, 'the admin port keeps the connection open after', b''.join(came))
+            require(False, 'the admin port keeps the connection open after', b''.join(came), wrong=Late)
         return b''.join(came)
 
     def is_over(self):
@@ -108,6 +108,7 @@ class Node:
         self.configuration = ''.join(line + '\n' for line in lines)
         self.within = ()  # The words of a command line before those of the program.
         self.environment = None  # Its environment, if that isn't this process's.
+        self.told = None  # Its standard error, if that isn't a file of its own.
         self.may_end = False
         self.admins = None
         self.child = None
@@ -125,8 +126,8 @@ class Node:
         """Starts it."""
         self.output, self.errors = tempfile.TemporaryFile(), tempfile.TemporaryFile()
         self.started = time.monotonic()
-        self.child = subprocess.Popen([*self.within, self.program, 'run'], stdin=subprocess.PIPE, stdout=self.output, stderr=self.errors,
-                                      env=self.environment)
+        self.child = subprocess.Popen([*self.within, self.program, 'run'], stdin=subprocess.PIPE, stdout=self.output,
+                                      stderr=self.told or self.errors, env=self.environment)
         try:
             self.child.stdin.write(self.configuration.encode())
             self.child.stdin.close()

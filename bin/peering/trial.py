@@ -10,14 +10,18 @@ class Wrong(Exception):
     """What a check found to be wrong."""
 
 
+class Late(Wrong):
+    """A time that a check found to be wrong, as it may be on a host that is too slow for all checks at once."""
+
+
 class Skipped(Exception):
     """Why a check can't be made here."""
 
 
-def require(holds, what, *shown):
+def require(holds, what, *shown, wrong=Wrong):
     """Ends the check unless something holds."""
     if not holds:
-        raise Wrong(' '.join([what] + [short(part) for part in shown]))
+        raise wrong(' '.join([what] + [short(part) for part in shown]))
 
 
 def short(part):
@@ -30,7 +34,9 @@ def equal(found, wanted, what):
 
 
 def between(low, found, high, what):
-    require(low <= found <= high, what + ':', round(found, 3), 'and not from', low, 'to', high)
+    """Ends the check unless a number is within its bounds. It is a time if it is said to be seconds or ms."""
+    wrong = Late if what.startswith(('seconds ', 'ms ')) else Wrong
+    require(low <= found <= high, what + ':', round(found, 3), 'and not from', low, 'to', high, wrong=wrong)
 
 
 def matches(pattern, text, what):
@@ -47,7 +53,7 @@ def wait(holds, seconds, what, shown=lambda: '', pause=0.02):
         found = holds()
         if found:
             return found
-        require(time.monotonic() < latest, '%s: not in %g s' % (what, seconds), shown())
+        require(time.monotonic() < latest, '%s: not in %g s' % (what, seconds), shown(), wrong=Late)
         time.sleep(pause)
 
 

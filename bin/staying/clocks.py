@@ -2,9 +2,11 @@
 before it. A thread that waits for a time waits by the system's clock, for as long as was left when it began to."""
 
 import contextlib
+import itertools
 import mmap
 import os
 import shutil
+import signal
 import struct
 import subprocess
 import tempfile
@@ -12,7 +14,7 @@ import threading
 import time
 
 from fuzzing.messages import acknowledgement
-from peering.far import CONFIRMED, FINISHED, HEARTBEAT, PARTIAL, REQUEST, Manners, connected
+from peering.far import CONFIRMED, FINISHED, HEARTBEAT, PARTIAL, REQUEST, Manners, connected, hello, kept_open, status_of
 from peering.lessons import definition, table, update
 from peering.node import T1, Admin, Node
 from peering.trial import Skipped, check, equal, require, wait
@@ -123,7 +125,7 @@ def clock_jumps(trial):
 
 @check
 def clock_of_a_mute_peer(trial):
-    """a peer that was asked has 5,000 ms, and is asked again 60,000 ms after it was asked, not a ms sooner"""
+    """a peer that was asked has 5,000 ms to answer, and is asked again 60,000 ms after it was asked, not a ms sooner"""
     node = Clocked(trial, peers=('b', 'c'), tables=(T1,)).start()
     first = connected(trial, node, 'b', KEEPS_QUIET)
     first.gets(REQUEST, SOON)
@@ -158,31 +160,42 @@ def brings_on(far, there, number):
 
 
 @check
-def clock_of_a_peer_without_end(trial):
-    """a peer that brings a row each 4,999 ms and never ends its resync has 600,000 ms, not a ms more; what it brings later counts"""
+def clock_of_an_endless_peer(trial):
+    """a peer that goes on bringing rows is waited for until 600,000 ms after it was asked, and asked again 660,000 ms after that, not a ms sooner; what it
+    brings later counts"""
     node = Clocked(trial, peers=('b', 'c'), tables=(T1,)).start()
-    endless = connected(trial, node, 'b', KEEPS_QUIET)
-    endless.gets(REQUEST, SOON)
-    other = connected(trial, node, 'c', KEEPS_QUIET)
-    there = table(9, 't1')
-    for far in (endless, other):
-        far.send(definition(there))
-    moments = [*range(0, 600_000, 4_999), 599_999]
-    for number, moment in enumerate(moments, 1):
-        node.at(moment)
-        for far in (endless, other):
-            brings_on(far, there, number)
+    fars = [connected(trial, node, 'b', KEEPS_QUIET)]
+    fars[0].gets(REQUEST, SOON)
+    fars.append(connected(trial, node, 'c', KEEPS_QUIET))
+    first, second = fars
+    of, numbers = table(7, 't1'), itertools.count(1)
+    for far in fars:
+        far.send(definition(of))
+
+    def rows(begin, end):
+        """Has both bring a row each 4,999 ms."""
+        for moment in [*range(begin, end, 4_999), end]:
+            node.at(moment)
+            number = next(numbers)
+            for far in fars:
+                brings_on(far, of, number)
+    rows(0, 599_999)
     time.sleep(1)
-    equal((other.count(REQUEST), node.logged('unanswered')), (0, []), 'requests to the other one, and lines, a ms before')
+    equal((second.count(REQUEST), node.logged('unanswered')), (0, []), 'requests to the other one, and lines, a ms before')
     node.at(600_000)
-    said, = node.logs('unanswered', peer='b')
-    equal((said.keys['why'], 'ten minutes' in said.sentence), ('endless', True), 'the line: ' + said.sentence)
-    other.gets(REQUEST, SOON)
-    brings_on(endless, there, len(moments) + 1)
-    equal((len(node.ask('show rows')), node.head()['up_to_date']), (len(moments) + 1, 'no'), 'rows, and whether the node is up to date')
-    endless.send(FINISHED)
+    said, = node.logs('unanswered', peer='b', seconds=SOON)
+    equal((said.keys['why'], 'ten minutes' in said.sentence), ('endless', True), 'why the wait is over: ' + said.sentence)
+    second.gets(REQUEST, SOON)
+    second.send(PARTIAL)
+    second.gets(CONFIRMED, SOON)
+    rows(600_000, 659_999)
+    equal((len(node.ask('show rows')), node.head()['up_to_date']), (next(numbers) - 1, 'no'), 'rows, and whether the node is up to date')
+    time.sleep(SOON)
+    equal(first.count(REQUEST), 1, 'requests to the first one a ms before')
+    node.at(660_000)
+    first.gets(REQUEST, SOON, 2)
+    first.send(FINISHED)
     up_to_date(node)
-    equal((endless.count(REQUEST), other.count(REQUEST)), (1, 1), 'requests')
 
 
 @check
@@ -225,6 +238,26 @@ def clock_of_idle_clients(trial):
     equal([client.is_over() for client in idle], [False, False], 'which are over a ms before')
     node.at(60_000)
     wait(lambda: all(client.is_over() for client in idle), 2, 'both are over')
+
+
+@check
+def clock_of_a_stopped_node(trial):
+    """what a client sends while the node is stopped, for longer than it may be idle, is answered: a request at each port, and a hello"""
+    node = Clocked(trial, tables=(T1,)).start()
+    idle = [trial.closes(Admin(port, node.host)) for port in (node.admin_port, node.metrics_port)]
+    peer = trial.closes(kept_open((node.host, node.port)))
+    time.sleep(0.5)
+    node.child.send_signal(signal.SIGSTOP)
+    time.sleep(0.2)
+    node.at(90_000)
+    idle[0].send('get t1 7\n')
+    idle[1].send('GET /ready HTTP/1.1\r\n\r\n')
+    peer.sendall(hello(node.name, 'b'))
+    time.sleep(0.2)
+    node.child.send_signal(signal.SIGCONT)
+    equal(idle[0].line(2), 'none', 'the answer to a request')
+    require(idle[1].line(2).startswith('HTTP/1.1 200 '), 'the answer to a request at the other port')
+    equal(status_of(peer, 2), b'200\n', 'the answer to a hello')
 
 
 def slow_readers(trial, path, count):
@@ -307,8 +340,8 @@ def clock_of_rows(trial):
 
 @check
 def clock_of_the_log(trial):
-    """of one event the log has five lines until a second is over, and says then how many were left out"""
-    node = Clocked(trial, tables=(T1,)).start()
+    """of one event about strangers, or about one peer, the log has five lines until a second is over, and says then how many were left out"""
+    node = Clocked(trial, peers=('b', 'c'), tables=(T1,)).start()
     for number in range(12):
         equal(refused(node, 'n', 's%d' % number), b'504\n', 'the status')
     node.at(999)
@@ -319,3 +352,14 @@ def clock_of_the_log(trial):
     equal(said.keys['count'], '7', 'lines that were left out')
     refused(node, 'n', 's12')
     equal(len(node.logs('hello-refused', times=6)), 6, 'lines')
+    for times in range(1, 13):
+        connected(trial, node).close()
+        wait(lambda times=times: (node.peer('b')['state'], node.peer('b')['sessions']) == ('down', str(times)), SOON, 'the session is over', node.said)
+    connected(trial, node, 'c')
+    node.logs('connected', peer='c')
+    for event in ('connected', 'ended'):
+        equal(len(node.logged(event, peer='b')), 5, 'lines about one peer: ' + event)
+    node.at(2_000)
+    for event in ('connected', 'ended'):
+        said, = node.logs('omitted', seconds=SOON, of=event, peer='b')
+        equal(said.keys['count'], '7', 'lines about one peer that were left out: ' + event)

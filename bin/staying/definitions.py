@@ -152,6 +152,22 @@ def lacking_tables(trial):
     counted(node, 'undefined', 0)
 
 
+@check
+def no_table_defined(trial):
+    """of a peer that has taught all it has and has defined no table, each table of this node is said to be undefined, 10 s after that end"""
+    node = Node(trial, tables=TABLES).start()
+    far = connected(trial, node, manners=KEEPS_QUIET)
+    far.gets(REQUEST, 2)
+    begun = time.monotonic()
+    far.send(FINISHED)
+    wait(lambda: node.is_up_to_date(), 3, 'the node is up to date', node.said)
+    time.sleep(max(0, begun + 9.5 - time.monotonic()))
+    equal(lines(node, 'undefined'), [], 'tables that were not defined, before 10 s are over')
+    # A session looks every 3 s at most, and says five each time.
+    equal(tables_in(says(node, 'undefined', len(TABLES), 8)), TABLE_NAMES, 'tables that were not defined')
+    counted(node, 'undefined', len(TABLES))
+
+
 def each_named(node, event, names, seconds):
     """Waits until the log has a line about an event for each of these tables, and requires that it has no other."""
     equal(sorted(tables_in(says(node, event, len(names), seconds))), names, 'tables in lines about ' + event)

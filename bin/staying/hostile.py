@@ -5,12 +5,12 @@ import random
 import threading
 import time
 
-from fuzzing.messages import DEFINITION, TABLE_CLASS, encoded, message
+from fuzzing.messages import DEFINITION, TABLE_CLASS, acknowledgement, encoded, framed, framed_length, message
 from fuzzing.tables import KINDS
 from fuzzing.streams import OVER
 from peering.far import (CONFIRMED, HEARTBEAT, OLDER_VERSION, PROTOCOL_ERROR, REQUEST, SIZE_LIMIT, Door, Manners, connected, hello,
                          is_closed, kept_open, status_of)
-from peering.lessons import definition, switch, table, update
+from peering.lessons import Lessons, definition, switch, table, update
 from peering.node import T1, Node, address
 from peering.trial import between, check, equal, require, wait
 from staying.resyncs import long_rows
@@ -310,6 +310,26 @@ def reads_slowly(trial):
 
 
 @check
+def leaves_under_a_flood(trial):
+    """a table that a peer doesn't acknowledge is left after 2 s, though the peer sends rows of another one without pause"""
+    node = node_of_b(trial, tables=(T1, T1.replace('1 t1', '2 t2')))
+    far = connected(trial, node, manners=Manners(passed=('t2',)))
+    up_to_date(node)
+    time.sleep(1)
+    node.ask('track t2 1 add gpc0 1')
+    far.send(definition(T1_THERE))
+    begun, number = time.monotonic(), 0
+    while node.shared('b', 't2')['left'] != 'yes':
+        between(0, time.monotonic() - begun, 5, 'seconds until the table is left')
+        for _ in range(20):
+            rows = range(number + 1, number + 101)
+            far.send(b''.join(update(T1_THERE, at, at % 50, (1,)) for at in rows))
+            number += 100
+    between(1.5, time.monotonic() - begun, 4, 'seconds until the table was left')
+    far.stands()
+
+
+@check
 def deaf(trial):
     """a peer that doesn't read ends its own session, and delays nobody else's"""
     node = node_of_b(trial, peers=('b', 'c'), tables=('table 1 long string 8192 0 gpc0', T1.replace('1 t1', '2 t1')))
@@ -369,3 +389,62 @@ def sends_without_pause(trial):
     require(node.metric('digbaro_bytes_received_total') - before > 1_000_000, 'it sends on')
     c.stands()
     between(0, node.stop(), 5, 'seconds until it has ended')
+
+
+def drains(peer, rate, is_over, take):
+    """Reads so many bytes a second from a connection until it is over, and hands them on."""
+    begun, read = time.monotonic(), 0
+    while not is_over():
+        allowed = int((time.monotonic() - begun) * rate) - read
+        if allowed <= 0:
+            time.sleep(0.01)
+            continue
+        data = peer.recv(min(allowed, 1 << 16))
+        if not data:
+            return
+        read += len(data)
+        take(data)
+
+
+class Drain:
+    """A peer that reads lessons slowly, and acknowledges each of the table `long` as soon as it begins to come."""
+
+    def __init__(self, trial, node, rate):
+        self.peer = trial.closes(kept_open((node.host, node.port), buffer=1 << 16))
+        self.peer.sendall(hello('n', 'b') + REQUEST)
+        equal(status_of(self.peer), b'200\n', 'the status')
+        self.left, self.updates, self.rows, self.over = b'', Lessons(), 0, False
+        threading.Thread(target=self.play, args=(rate,), daemon=True).start()
+
+    def play(self, rate):
+        with contextlib.suppress(OSError):
+            drains(self.peer, rate, lambda: self.over, self.take)
+        self.over = True
+
+    def take(self, data):
+        data = self.left + data
+        for _, class_byte, type_byte, content in framed(data):
+            update = self.updates.take(type_byte, content) if class_byte == TABLE_CLASS else None
+            if update is not None and update.table.name == b'long':
+                if self.rows % 512 == 0:
+                    self.peer.sendall(acknowledgement(update.id, update.number + 511))
+                self.rows += 1
+        self.left = data[framed_length(data):]
+
+
+@check
+def drains_slowly(trial):
+    """a table that a peer doesn't acknowledge is left also while each lesson takes it seconds to read, and its session goes on"""
+    node = node_of_b(trial, peers=('b', 'c'), tables=(T1, 'table 2 long string 8192 0 gpc0'))
+    c = connected(trial, node, 'c')
+    up_to_date(node)
+    node.ask('track t1 7 add gpc0 1')
+    long_rows(node, 5 * 512)
+    begun, drain = time.monotonic(), Drain(trial, node, 1_200_000)
+    # The second lesson is written after some 4.5 s, the third after 7.
+    wait(lambda: node.shared('b', 't1')['left'] == 'yes', 12, 'the table is left', lambda: node.ask('show peers'))
+    between(1.5, time.monotonic() - begun, 12, 'seconds until it is left')
+    require(drain.rows < 4 * 512 and not drain.over, 'it still reads then:', drain.rows)
+    wait(lambda: drain.rows == 5 * 512, 30, 'it has read all', lambda: drain.rows)
+    equal(node.peer('b')['sessions'], '1', 'sessions')
+    c.stands()

@@ -1,8 +1,10 @@
 """What the log of a node that stays says, and that whoever reads it holds nothing up."""
 
+import contextlib
 import hashlib
 import os
 import re
+import socket
 import subprocess
 import time
 from datetime import datetime, timezone
@@ -11,6 +13,7 @@ from peering.far import FINISHED, PROTOCOL_ERROR, REQUEST, Door, Manners, connec
 from peering.lessons import definition, switch, update
 from peering.node import T1, Node, address
 from peering.trial import Skipped, between, check, equal, matches, require, wait
+from staying.ports import Folder
 from staying.sessions import KEEPS_QUIET, T1_THERE, node_of_b, up_to_date
 
 
@@ -180,6 +183,48 @@ def log_of_a_peer_that_is_not_there(trial):
     require('Connection refused' in second.sentence, 'the reason:', second.sentence)
 
 
+def full_port(trial):
+    """Returns a port at which a connection comes to nothing: as many wait to be accepted as may, and nobody accepts them."""
+    port = trial.ports.next()
+    listener = trial.closes(socket.socket())
+    listener.bind(('127.0.0.1', port))
+    listener.listen(0)
+    for _ in range(20):
+        waiting = trial.closes(socket.socket())
+        waiting.settimeout(0.3)
+        try:
+            waiting.connect(('127.0.0.1', port))
+        except socket.timeout:
+            return port
+    raise Skipped('the system takes any number of connections that nobody accepts')
+
+
+@check
+def log_of_a_peer_that_takes_no_packet(trial):
+    """a peer whose address doesn't answer an attempt to connect is named once, 2 s after it, with the reason; it delays no other, and no stop"""
+    node = Node(trial, peers=('b', 'c ' + address(full_port(trial))), tables=(T1,)).start()
+    connecting, = node.logs('connecting', peer='c')
+    said, = node.logs('unreachable', seconds=4, peer='c')
+    equal((said.level, said.keys['address']), ('warn', connecting.keys['address']), 'the line about the connection')
+    require('timed out' in said.sentence, 'the reason:', said.sentence)
+    between(1.9, seconds_from(connecting, said), 3, 'seconds between the two lines')
+    wait(lambda: node.peer('c')['last_error'] == 'unreachable', 2, 'the last error', lambda: node.peer('c'))
+    far = connected(trial, node)
+    up_to_date(node)
+    for key in range(12):
+        node.ask('track t1 %d add gpc0 1' % key)
+        far.gets_row('t1', key, (1,), 1)
+        time.sleep(0.5)
+    equal((len(node.logged('connecting', peer='c')), len(node.logged('unreachable', peer='c'))), (1, 1), 'lines about the connection')
+    between(0, node.stop(), 5, 'seconds until it has ended')
+
+
+def seconds_from(one, other):
+    """Returns how many seconds after one line of the log another one was said."""
+    first, second = (datetime.strptime(said.time, '%Y-%m-%dT%H:%M:%S.%fZ') for said in (one, other))
+    return (second - first).total_seconds()
+
+
 @check
 def log_of_a_status(trial):
     """a status that refuses the node is said once, with what repairs it, and again once it changes; a session is said to begin then"""
@@ -205,7 +250,7 @@ def log_of_a_peer_that_says_nothing(trial):
     door.tried(1)
     said, = node.logs('unreachable', seconds=13, peer='b')
     equal((said.level, 'for 10 s no answer came' in said.sentence), ('warn', True), 'the line about the connection')
-    equal(node.peer('b')['last_error'], 'no-answer', 'the last error')
+    equal(node.peer('b')['last_error'], 'unreachable', 'the last error')
     equal(node.logged('ended'), [], 'ends of sessions')
 
 
@@ -219,8 +264,8 @@ def log_of_a_peer_that_is_another_server(trial):
         node = Node(trial, peers=('b ' + address(door.port),)).start()
         said, = node.logs('unreachable', peer='b')
         equal((said.level, words in said.sentence), ('warn', True), 'the line about the connection: ' + said.sentence)
-        wait(lambda node=node: node.peer('b')['last_error'] == 'no-answer', 2, 'the last error', lambda node=node: node.peer('b'))
-        node.shows('digbaro_peer_last_error{peer="b",error="no-answer"}', 1)
+        wait(lambda node=node: node.peer('b')['last_error'] == 'unreachable', 2, 'the last error', lambda node=node: node.peer('b'))
+        node.shows('digbaro_peer_last_error{peer="b",error="unreachable"}', 1)
         door.tried(2, 6)
         time.sleep(0.5)
         equal((len(node.logged('unreachable')), node.logged('ended')), (1, []), 'lines about the connections')
@@ -346,8 +391,7 @@ def five_lines_a_second(trial):
     begun = time.monotonic()
     for number in range(30):
         equal(refused(node, 'n', 's%d' % number), b'504\n', 'the status')
-    if time.monotonic() - begun > 0.9:
-        raise Skipped('the host was too slow for so many hellos in a second')
+    between(0, time.monotonic() - begun, 0.9, 'seconds for so many hellos')
     omitted = node.logs('omitted', seconds=4, of='hello-refused')
     said = node.logged('hello-refused')
     equal((len(said), sum(int(each.keys['count']) for each in omitted)), (5, 25), 'the lines, and those left out')
@@ -363,8 +407,7 @@ def strangers_named_later(trial):
     begun = time.monotonic()
     for number in range(7):
         equal(refused(node, 'n', 's%d' % number), b'504\n', 'the status')
-    if time.monotonic() - begun > 0.9:
-        raise Skipped('the host was too slow for so many hellos in a second')
+    between(0, time.monotonic() - begun, 0.9, 'seconds for so many hellos')
     time.sleep(1.1)
     for _ in range(2):
         refused(node, 'n', 's5')
@@ -455,29 +498,65 @@ def log_that_fails(trial):
     node.stop()
 
 
+def datagrams_at(trial, path):
+    """Returns a socket that takes what is written to those that are connected to this path."""
+    taking = trial.closes(socket.socket(socket.AF_UNIX, socket.SOCK_DGRAM))
+    taking.bind(path)
+    taking.setblocking(False)
+    return taking
+
+
+def taken(taking):
+    """Returns what has come to a socket since."""
+    found = b''
+    with contextlib.suppress(BlockingIOError):
+        while True:
+            found += taking.recv(1 << 16)
+    return found
+
+
 @check
 def log_that_fails_for_a_while(trial):
     """all lines that a standard error didn't take are counted, once, and their number is said as soon as it takes lines again"""
-    path = os.path.join('/tmp', 'log-%d-%d' % (os.getpid(), trial.ports.next()))
-    os.mkfifo(path)
-    pipe = trial.closes(read_end(path))
+    folder = Folder(trial)
+    taking = datagrams_at(trial, folder.path('first'))
+    errors = trial.closes(socket.socket(socket.AF_UNIX, socket.SOCK_DGRAM))
+    errors.connect(folder.path('first'))
+    node = Node(trial)
+    node.told = errors
+    node.start()
+    wait(lambda: b' port=admin ' in taken(taking), 5, 'the log has its last line of the start', pause=0.3)
+    taking.close()
+    for number in range(5):
+        refused(node, 'n', 's%d' % number)
+    node.shows('digbaro_log_lines_dropped_total', 5)
+    time.sleep(3.5)
+    taking = datagrams_at(trial, folder.path('second'))
+    errors.connect(folder.path('second'))
+    time.sleep(1.5)
+    equal(re.findall(rb' event=omitted (.*?): ', taken(taking)), [b'count=5'], 'how many lines were dropped, as the log says')
+    equal(node.metric('digbaro_log_lines_dropped_total'), 5, 'lines dropped')
+    node.stop()
+
+
+@check
+def log_without_a_reader(trial):
+    """a node whose standard error is a pipe that nobody reads any longer goes on, answers, and stops"""
+    reading, writing = os.pipe()
+    node = Node(trial)
     try:
-        node = Node(trial)
-        node.within = ('sh', '-c', "trap '' PIPE; exec \"$@\" 2>" + path, 'sh')
+        node.told = writing
         node.start()
-        wait(lambda: b' port=admin ' in (pipe.read(1 << 16) or b''), 5, 'the log has its last line of the start', pause=0.3)
-        pipe.close()
-        for number in range(5):
-            refused(node, 'n', 's%d' % number)
-        node.shows('digbaro_log_lines_dropped_total', 5)
-        time.sleep(3.5)
-        pipe = trial.closes(read_end(path))
-        time.sleep(1.5)
-        equal(re.findall(rb' event=omitted (.*?): ', pipe.read(1 << 16) or b''), [b'count=5'], 'how many lines were dropped, as the log says')
-        equal(node.metric('digbaro_log_lines_dropped_total'), 5, 'lines dropped')
-        node.stop()
     finally:
-        os.remove(path)
+        os.close(reading)
+        os.close(writing)
+    far = connected(trial, node)
+    up_to_date(node)
+    for number in range(5):
+        refused(node, 'n', 's%d' % number)
+    equal(node.ask('track t1 7 add gpc0 1').split(' ')[0], 'reply', 'the answer')
+    far.gets_row('t1', 7, (1,))
+    require(node.stop() < 5, 'the node stops within 5 s')
 
 
 @check

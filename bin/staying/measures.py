@@ -217,7 +217,7 @@ def last_error_of_an_end(trial):
     wait(lambda: door.kept, 6, 'the node connects again')
     door.kept[0].close()
     node.logs('unreachable', peer='b')
-    equal(node.peer('b')['last_error'], 'no-answer', 'why there is no session')
+    equal(node.peer('b')['last_error'], 'unreachable', 'why there is no session')
     again = trial.closes(kept_open((node.host, node.port)))
     again.sendall(hello('x', 'b'))
     equal(status_of(again), b'503\n', 'the status for a further one')

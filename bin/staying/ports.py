@@ -10,15 +10,16 @@ import socket
 import stat
 import subprocess
 import tempfile
+import threading
 import time
 
 from peering.far import REQUEST, Door, Far, Manners, connected, hello, kept_open, status_of
 from peering.node import T1, Admin, Node, address
 from peering.ports import held
-from peering.trial import PATIENCE, Skipped, between, check, equal, matches, require, wait
-from staying.requests import GOOD, PAGES, alone, is_page, is_untouched, with_body
+from peering.trial import PATIENCE, Late, Skipped, between, check, equal, matches, require, wait
+from staying.requests import GOOD, PAGES, alone, answer_to, is_page, is_untouched, with_body
 from staying.resyncs import long_rows
-from staying.sessions import up_to_date
+from staying.sessions import node_of_b, up_to_date
 
 
 class Folder:
@@ -92,6 +93,10 @@ def metrics_port(trial):
         require(node.page(path, 'HEAD').endswith(b'\r\n\r\n'), 'a HEAD of', path)
     body = is_page(node.page('/metrics'), 200, '/metrics')
     require('\nhaproxy_sticktable_used{name="t1",type="integer"} 1\n' in body, 'the metrics:', body)
+    node.ask('track t1 8 add gpc0 1')
+    equal(node.page('/metrics').count(b'\nhaproxy_sticktable_used{name="t1",type="integer"} 1\n'), 1, 'the page is kept')
+    time.sleep(1)
+    equal(node.page('/metrics').count(b'\nhaproxy_sticktable_used{name="t1",type="integer"} 2\n'), 1, 'the page after a second')
     is_page(node.page('/nothing'), 404, 'another path')
     is_page(node.page('/', 'POST'), 405, 'another method', 'GET, HEAD')
     is_page(node.sees('GET / HTTP/2.0\r\n\r\n'), 505, 'another version')
@@ -186,11 +191,58 @@ def metrics_burst(trial):
         if visit not in standing:
             came = visit.rest()
             require(not came or is_page(came, 503, 'one too many') == '', 'what another one gets:', came)
-    between(0, busy(node.child.pid) - used, 2, 'seconds of a processor')
+    between(0, busy(node.child.pid) - used, 2, 'processor time, in s')
     for visit in standing:
         visit.send('GET /ready HTTP/1.1\r\n\r\n')
         is_page(visit.rest(3), 200, 'a request of one that stands')
     is_page(node.page('/ready'), 200, 'a request later')
+
+
+@check
+def metrics_too_many(trial):
+    """while no thread has found any of 32 connections to the port of metrics idle, one too many is told so by 503, and the others stay"""
+    node = Metered(trial, peers=(), tables=(T1,)).start()
+    node.child.send_signal(signal.SIGSTOP)  # So that all are accepted at once.
+    visits = [node.visit() for _ in range(35)]
+    for visit in visits[32:]:
+        visit.send('GET /ready HTTP/1.1\r\n\r\n')
+    node.child.send_signal(signal.SIGCONT)
+    for visit in visits[32:]:
+        came = visit.rest(3)
+        # A thread takes 50 ms to find a connection idle, which then makes room.
+        require(came.startswith(b'HTTP/1.1 503 '), 'what one too many gets:', came, wrong=Late)
+        equal(is_page(came, 503, 'one too many'), '', 'the body of what one too many gets')
+    for visit in visits[:32]:
+        visit.send('GET /ready HTTP/1.1\r\n\r\n')
+    for visit in visits[:32]:
+        is_page(visit.rest(3), 200, 'a request of one that stands')
+
+
+def sends_bit_by_bit(visits):
+    """Has clients of HTTP send the head of a request bit by bit, until they are closed."""
+    def play():
+        while any(visit.peer.fileno() >= 0 for visit in visits):
+            for visit in visits:
+                with contextlib.suppress(OSError):
+                    visit.send('X: y\r\n')
+            time.sleep(0.02)
+    for visit in visits:
+        visit.send('GET /metrics HTTP/1.1\r\n')
+    threading.Thread(target=play, daemon=True).start()
+
+
+@check
+def metrics_beside_the_slow(trial):
+    """20 clients of the port of metrics that send a head bit by bit delay no other's answer, nor do they lose their place to it"""
+    node = Metered(trial, peers=(), tables=(T1,)).start()
+    slow = [node.visit() for _ in range(20)]
+    sends_bit_by_bit(slow)
+    time.sleep(0.5)
+    for _ in range(10):
+        begun = time.monotonic()
+        is_page(node.page('/metrics'), 200, 'a request beside them')
+        between(0, time.monotonic() - begun, 1, 'seconds until it is answered')
+    equal([visit.is_over() for visit in slow], [False] * 20, 'which of them are over')
 
 
 def nothing_came(visit):
@@ -356,6 +408,17 @@ def socket_in_use(trial):
         require(not os.path.exists(free), 'a file of a node that did not start')
 
 
+@check
+def socket_of_another_kind(trial):
+    """a socket to which no connection can be made stays as it is, and the node says why none can"""
+    path = Folder(trial).path()
+    with socket.socket(socket.AF_UNIX, socket.SOCK_DGRAM) as other:
+        other.bind(path)
+        before = os.stat(path).st_ino
+        fails(trial, with_lines(trial, 'admin unix:' + path), 'admin unix:%s: Protocol wrong type for socket\n' % path)
+        equal(os.stat(path).st_ino, before, 'the file')
+
+
 # --- What can't be had
 
 @check
@@ -396,23 +459,51 @@ def privileged_port(trial):
 
 # --- Descriptors at their limit
 
+def held_by(trial, **other):
+    """Returns how many descriptors such a node holds that has as many as it wants, and to which nobody connects."""
+    node = Metered(trial, **other).start()
+    held_now = '/proc/%d/fd' % node.child.pid
+    node.admins.close()
+    # The fewest at several looks, since an attempt to connect holds one more.
+    count = min(count_after(held_now, 0.1) for _ in range(8))
+    node.kill()
+    return count
+
+
+def count_after(folder, seconds):
+    """Returns how many entries a folder has, after so many seconds."""
+    time.sleep(seconds)
+    return len(os.listdir(folder))
+
+
 @check
 def few_descriptors(trial):
-    """a node whose descriptors are at their limit keeps its sessions and its clients, is idle, and takes others once there is room"""
-    node = Metered(trial, peers=('b', 'c'), tables=(T1,))
-    node.within = ('prlimit', '--nofile=16')
+    """a node whose descriptors are at their limit says so, keeps its sessions and its clients, is idle, and takes others once there is room"""
+    other = {'peers': ('b', 'c'), 'tables': (T1,), 'more': ('log error',)}
+    limit = held_by(trial, **other) + 8
+    node = Metered(trial, **other)
+    node.within = ('prlimit', '--nofile=%d' % limit)
     node.start()
     b = connected(trial, node)
     up_to_date(node)
+    waiting = node.visit()
     crowd = [node.admin() for _ in range(20)] + [kept_open((node.host, node.port)) for _ in range(20)] + [node.visit() for _ in range(20)]
     time.sleep(1)
+    for port in ('peers', 'admin', 'metrics'):
+        said, = node.logs('not-accepted', port=port)
+        equal(said.level, 'error', 'the level of a line about ' + port)
+        require('(Too many open files)' in said.sentence, 'the log says why nobody can connect:', said)
+    equal({said.level for said in node.logged()}, {'error'}, 'levels of the log of errors')
+    waiting.send('GET /metrics HTTP/1.1\r\n\r\n')
+    page = waiting.rest().decode('ascii')
+    require('\nprocess_open_fds %d\n' % limit in page and '\nprocess_resident_memory_bytes ' in page, 'the metrics of the process:', page)
     used = busy(node.child.pid)
     for key in range(20):
         equal(node.admins.ask('track t1 %d add gpc0 1' % key), 'reply %d - %d 1 local' % (key + 1, key), 'a track')
         b.gets_row('t1', key, (1,), 3)
         time.sleep(0.1)
     b.stands()
-    between(0, busy(node.child.pid) - used, 1, 'seconds of a processor in two seconds')
+    between(0, busy(node.child.pid) - used, 1, 'processor time in two seconds, in s')
     for one in crowd:
         one.close()
     c = wait(lambda: comes(trial, node), 15, 'a peer comes once there is room', node.said, pause=0.5)
@@ -433,11 +524,50 @@ def comes(trial, node):
     return None
 
 
+def is_answered(node):
+    """Whether a client gets an answer: a connection for which there is no descriptor waits."""
+    client = node.admin()
+    client.send('get t1 7\n')
+    client.peer.settimeout(2)
+    with contextlib.suppress(OSError):
+        return client.peer.recv(100) == b'none\n'
+    return False
+
+
+@check
+def starts_with_few_descriptors(trial):
+    """a node that starts with few descriptors has all its ports, and else says which it can't have, with the system's reason, and never connects"""
+    door, path, ways = Door(trial), Folder(trial).path(), set()
+    other = {'peers': ('b ' + address(door.port),), 'tables': (T1,), 'more': ('admin unix:' + path,)}
+    most = held_by(trial, **other) + 4
+    os.remove(path)
+    for limit in range(most, 3, -1):
+        node = Metered(trial, **other)
+        node.within, node.may_end = ('prlimit', '--nofile=%d' % limit), True
+        tries = len(door.tries)
+        node.launch()
+        wait(lambda node=node: node.child.poll() is not None or node.said().count(b' event=listening ') == 4, PATIENCE, 'it starts, or ends', node.said)
+        status = node.child.poll()
+        if status is None:
+            ways.add('answers' if is_answered(node) else 'waits')
+            node.kill()
+            os.remove(path)
+            continue
+        if status in (126, 127):  # It can't be loaded.
+            break
+        line = matches(r'(listen|admin|metrics) \S+: Too many open files\n', node.said().decode(), 'standard error with %d descriptors' % limit)
+        equal((status, len(door.tries), os.path.exists(path)), (4, tries, False), 'the status, connections, and whether the file of the socket is there')
+        ways.add(line[1])
+    require({'answers', 'listen', 'admin', 'metrics'} <= ways, 'what became of it:', ways)
+
+
 @check
 def stop_without_descriptors(trial):
     """stop ends a node within 5 s while no descriptor is left, for want of which a peer is unreachable"""
-    node = Metered(trial, peers=('b', 'c 127.0.0.1:9'), tables=(T1,))
-    node.within = ('prlimit', '--nofile=14')
+    other = {'peers': ('b', 'c 127.0.0.1:9'), 'tables': (T1,)}
+    limit = held_by(trial, **other) + 4
+    node = Metered(trial, **other)
+    node.within = ('prlimit', '--nofile=%d' % limit)
     node.start()
     b = connected(trial, node)
     up_to_date(node)
@@ -521,7 +651,7 @@ def suspended(trial):
          'the other peer has the row', node.said)
     equal(node.ask('get t1 7'), 'row 1 - 7 1', 'a row from before')
     time.sleep(1)
-    between(0, busy(node.child.pid) - used, 3, 'seconds of a processor since')
+    between(0, busy(node.child.pid) - used, 3, 'processor time since, in s')
     between(0, node.stop(), 5, 'seconds until it has ended')
 
 

@@ -3,21 +3,25 @@ the program in which that number is a lower one, at the one place where its code
 
 import os
 import re
+import socket
 import struct
 import tempfile
 import time
 
 from checks.refusing import symbols
-from peering.far import Door, connected
-from peering.lessons import table
+from peering.far import REQUEST, Door, Far, connected, hello, kept_open, status_of
+from peering.lessons import definition, table
 from peering.node import T1, Node, address
 from peering.trial import PATIENCE, Skipped, between, check, equal, require, wait
-from staying.lacking import Refuser, at_rest, attempted, has_seven
+from staying.clocks import SOON, Clocked, brings_on
+from staying.lacking import SEVEN, Refuser, at_rest, attempted
 from staying.resyncs import T2, tracked
 from staying.sessions import up_to_date
 
 # The next number of a table from which on it gets new ones, as the program has it, and as its copy does.
 MANY, FEW = 1 << 31, 1 << 10
+# How many rows the table has.
+ROWS = 300
 # The function that looks at it, if the program has that by itself; the one that it is a part of otherwise calls the other one.
 LOOKS, RENUMBERS = b'staying_node::tables::is_spent', b'table_cell::cell::TableCell::renumber'
 # A shift of a register to the right by 31 bits, and the last of its bytes.
@@ -86,6 +90,19 @@ def next_number(node, name):
     return node.metric('digbaro_table_next_number{name="%s"}' % name)
 
 
+def used_up_but_one(node, *peers):
+    """Changes the rows of a table until it has one number left, and waits until these peers have acknowledged all."""
+    tracked(node, 't1', [place % ROWS for place in range(FEW - 2)])
+    for name in peers:
+        wait(lambda name=name: node.shared(name, 't1')['acknowledged'] == str(FEW - 2), PATIENCE, 'all is acknowledged', lambda: node.ask('show peers'))
+
+
+def has_all(far):
+    """Waits until a far side has been taught all rows, by the numbers that they have once these are new."""
+    wait(lambda: len(far.rows('t1')) == ROWS, PATIENCE, 'all rows again', far.shown)
+    equal([update.number for update in far.updates('t1')], list(range(1, ROWS + 1)), 'the numbers of the rows')
+
+
 @check
 def renewal(trial):
     """a table whose numbers are used up gets new ones, for which all sessions end and begin again, and no row is lost"""
@@ -93,8 +110,7 @@ def renewal(trial):
     node, far = of_few_numbers(trial, peers=('b', 'c ' + address(door.port)))
     other = door.far()
     tracked(node, 't2', range(3))
-    tracked(node, 't1', range(FEW - 2))
-    wait(lambda: len(far.rows('t1')) == len(other.rows('t1')) == FEW - 2, PATIENCE, 'the rows')
+    used_up_but_one(node, 'b', 'c')
     time.sleep(1)
     equal((node.logged('renewed'), node.logged('ended')), ([], []), 'lines one number before')
     far.stands()
@@ -104,23 +120,23 @@ def renewal(trial):
     far.ends(2)
     other.ends(2)
     node.logs('ended', peer='b', end='end')
-    wait(lambda: (next_number(node, 't1'), next_number(node, 't2')) == (FEW - 1, 4), 2, 'the next numbers', node.metrics)
+    wait(lambda: (next_number(node, 't1'), next_number(node, 't2')) == (ROWS + 1, 4), 2, 'the next numbers', node.metrics)
     far, other = connected(trial, node), door.far(1, 8)
     for one in (far, other):
-        wait(lambda one=one: len(one.rows('t1')) == FEW - 2 and len(one.rows('t2')) == 3, PATIENCE, 'all rows again', one.shown)
-        equal(one.rows('t1')[(7).to_bytes(4, 'big')], ((2,), None), 'the row that changed last')
-        equal([update.number for update in one.updates('t1')], list(range(1, FEW - 1)), 'the numbers of the rows')
-    node.ask('track t1 8 add gpc0 1')
-    far.gets_row('t1', 8, (2,), 2)
+        has_all(one)
+        wait(lambda one=one: len(one.rows('t2')) == 3, 2, 'the rows of the other table', one.shown)
+        equal(one.rows('t1')[SEVEN], ((len(range(7, FEW - 2, ROWS)) + 1,), None), 'the row that changed last')
+    node.ask('track t1 8 put gpc0 77')
+    far.gets_row('t1', 8, (77,), 2)
     far.stands()
+    equal(len(node.logged('renewed')), 1, 'lines about new numbers')
 
 
 @check
 def renewal_of_a_table_left_open(trial):
     """a table in which a session stayed open for want of memory gets new numbers all the same, and the peer is served again"""
     node, far = of_few_numbers(trial)
-    tracked(node, 't1', range(FEW - 2))
-    wait(lambda: len(far.rows('t1')) == FEW - 2, PATIENCE, 'the rows')
+    used_up_but_one(node, 'b')
     before, refuser = at_rest(node), Refuser(trial, node)
     refuser.tell('refuse')
     far.close()
@@ -130,6 +146,55 @@ def renewal_of_a_table_left_open(trial):
     tracked(node, 't1', [7])
     node.logs('renewed', seconds=5, table='t1')
     far = attempted(trial, node)
-    require(far and has_seven(far), 'the peer is served')
-    wait(lambda: len(far.rows('t1')) == FEW - 2, PATIENCE, 'all rows again', far.shown)
+    require(far, 'the hello is answered')
+    has_all(far)
+    far.stands()
     between(0, node.stop(), 5, 'seconds until it has ended')
+
+
+def keeper(node):
+    """Returns the thread that keeps the tables: the first one keeps the log."""
+    return sorted(map(int, os.listdir('/proc/%d/task' % node.child.pid)))[2]
+
+
+def stays_silent(peer, seconds):
+    """Checks that nothing comes on a connection for a while."""
+    peer.settimeout(seconds)
+    try:
+        require(False, 'what came:', peer.recv(100))
+    except socket.timeout:
+        pass
+
+
+@check
+def clock_of_renewals(trial):
+    """a table that can't get new numbers keeps sessions out for 5,000 ms, and then lets them stand for 60,000 ms, not a ms more or less"""
+    node, far = of_few_numbers(trial, of=Clocked)
+    used_up_but_one(node)
+    refuser = Refuser(trial, node)
+    refuser.tell('refuse in %d' % keeper(node))
+    tracked(node, 't1', [7])
+    far.ends(SOON)
+    peer = trial.closes(kept_open((node.host, node.port)))
+    peer.sendall(hello('n', 'b'))
+    node.at(4_999)
+    stays_silent(peer, 1.5)
+    node.at(5_000)
+    equal(status_of(peer, SOON), b'200\n', 'the status')
+    far, there = trial.closes(Far(peer)), table(9, 't2')
+    far.send(definition(there))
+    for number, moment in enumerate([*range(5_000, 64_999, 4_000), 64_999], 1):
+        node.at(moment)
+        brings_on(far, there, number)
+    time.sleep(1.5)
+    far.stands()
+    node.at(65_000)
+    far.ends(SOON)
+    equal(node.logged('renewed'), [], 'lines about new numbers')
+    refuser.tell('allow')
+    node.logs('renewed', seconds=SOON, table='t1')
+    far = attempted(trial, node)
+    require(far, 'the hello is answered')
+    far.send(REQUEST)
+    has_all(far)
+    equal(next_number(node, 't1'), ROWS + 1, 'the next number')

@@ -6,6 +6,7 @@ import os
 import re
 import shutil
 import subprocess
+import tempfile
 import threading
 import time
 
@@ -651,22 +652,32 @@ def stop_waits_3_seconds(trial):
 
 
 @check
-def stopped_by_a_shell(trial):
-    """the lines for a unit in the man page stop a node, and wait for its end"""
-    if shutil.which('bash') is None:
-        raise Skipped('there is no bash')
-    node = node_of_b(trial, tables=(T1,))
+def stopped_by_a_unit(trial):
+    """the lines for a unit in the man page stop a node by its socket, and wait for its end"""
+    perl = '/usr/bin/perl'
+    if not os.path.exists(perl) or subprocess.run([perl, '-MIO::Socket::UNIX', '-e', '1'], stderr=subprocess.DEVNULL, check=False).returncode != 0:
+        raise Skipped('there is no perl with IO::Socket::UNIX')
+    folder = tempfile.mkdtemp(prefix='n', dir='/tmp')
+    try:
+        ends_by_its_socket(trial, perl, os.path.join(folder, 's'))
+    finally:
+        shutil.rmtree(folder, ignore_errors=True)
+
+
+def ends_by_its_socket(trial, perl, path):
+    """Has the lines of the man page stop a node with a socket at this path."""
+    node = node_of_b(trial, tables=(T1,), more=('admin unix:' + path,))
     far = connected(trial, node)
     up_to_date(node)
     tracked(node, 't1', range(1000))
     with open(MANUAL) as file:
-        text = file.read().replace('\\e\n', '\\\n')
-    line, = re.findall(r"^ExecStop=/bin/bash -c '([^']*)'$", text, re.M)
-    require('/127.0.0.1/9101 ' in line, 'the port in the man page:', line)
-    words = ['bash', '-c', line.replace('\\\n', '').replace('9101', str(node.admin_port))]
-    shell = subprocess.Popen(words, env={**os.environ, 'MAINPID': str(node.child.pid)}, stderr=subprocess.DEVNULL)
+        text = file.read().replace('\\e\n', ' ')
+    script, = re.findall(r"^ExecStop=/usr/bin/perl -l -MIO::Socket::UNIX -e '([^']*)'$", text, re.M)
+    require('/run/digbaro/admin.sock' in script, 'the socket in the man page:', script)
+    words = [perl, '-l', '-MIO::Socket::UNIX', '-e', script.replace('/run/digbaro/admin.sock', path)]
+    stopper = subprocess.Popen(words, env={**os.environ, 'MAINPID': str(node.child.pid)})
     equal(node.child.wait(5), 0, 'the status of the node')
-    shell.wait(2)
+    stopper.wait(3)
     far.gets_row('t1', 999, (1,), 1)
 
 

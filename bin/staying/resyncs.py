@@ -20,8 +20,8 @@ def tracked(node, name, keys):
 
 
 def long_rows(node, count):
-    """Makes rows with long keys in the table `long`, which take more than the kernel keeps for a connection."""
-    answered(node, [b'track long =%s%04d add gpc0 1' % (b'k' * 8100, key) for key in range(count)], 20)
+    """Makes rows with long keys, which differ at their begin, in the table `long`. They take more than the kernel keeps for a connection."""
+    answered(node, [b'track long =%04d%s add gpc0 1' % (key, b'k' * 8100) for key in range(count)], 20)
 
 
 def answered(node, requests, at_once):
@@ -270,16 +270,17 @@ def rows_keep_the_wait(trial):
 
 @check
 def rows_of_other_tables(trial):
-    """a peer that was asked and teaches a table that the node lacks is waited for, and no other is asked"""
+    """a peer that was asked and teaches nothing but a table that the node lacks, for 12 s, is waited for, isn't silent, and no other is asked"""
     node = node_of_b(trial, peers=('b', 'c'))
-    far = connected(trial, node, manners=KEEPS_QUIET)
+    far = connected(trial, node, manners=Manners(beats=False, answer=b''))
     far.gets(REQUEST, 2)
     other = connected(trial, node, 'c')
     there = table(9, 'lacking')
     far.send(definition(there))
-    for number in range(1, 9):
+    for number in range(1, 13):
         time.sleep(1)
         far.send(update(there, number, number, (1,)))
+    far.stands()
     equal((far.count(REQUEST), other.count(REQUEST), node.logged('unanswered')), (1, 0, []), 'requests, and what the log says of those given up')
     far.send(FINISHED)
     up_to_date(node)

@@ -7,10 +7,6 @@ use Rattle.std.specs.List.{list_all}
 abbrev pub is_idle_too_long : ℕ → ℕ → Bool
 is_idle_too_long since now = nat_le 60000 (now - since)
 
--- 100 ms have passed since then
-abbrev pub makes_room : ℕ → ℕ → Bool
-makes_room since now = nat_le 100 (now - since)
-
 -- it isn't idle, or hasn't been for longer than since `own`
 abbrev pub is_no_longer : ℕ → Option ℕ → Bool
 is_no_longer own None = true

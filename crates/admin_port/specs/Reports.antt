@@ -50,8 +50,6 @@ version_text (Some version) = version_name version
 abbrev pub last_error_text : Option LastError → List ℕ
 last_error_text None = codes "-"
 last_error_text (Some errors.Unreachable) = codes "unreachable"
-last_error_text (Some errors.NoAnswer) = codes "no-answer"
-last_error_text (Some errors.Lacking) = codes "no-memory"
 last_error_text (Some (errors.Refused status)) = codes "refused-" ++ decimal status
 last_error_text (Some (errors.HelloRefused status)) = codes "hello-refused-" ++ decimal status
 

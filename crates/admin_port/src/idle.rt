@@ -1,27 +1,16 @@
 //! Which connection ends: one that has been idle for too long, or the one idle longest when another comes.
 ghost use Rattle.std.specs.Prelude.{◌≡◌, MatchOption, true};
 ghost use Rattle.std.specs.List.{list_all};
-ghost use Rattle.admin_port.specs.Idle.{IsLongest, is_at_work, is_idle_too_long, is_no_longer, makes_room};
+ghost use Rattle.admin_port.specs.Idle.{IsLongest, is_at_work, is_idle_too_long, is_no_longer};
 
 /// How long a connection may be idle, in milliseconds.
 const MOST_IDLE: u64 = 60_000;
-
-/// How long a connection has to have been idle to make room for another one, in milliseconds: so long that a request which has come was
-/// read.
-const SETTLED: u64 = 100;
 
 /// Returns whether a connection that has been idle since `since` has been so for too long at `now`, both in milliseconds.
 pub fn is_idle_too_long(since: u64, now: u64) -> bool
     ensures { result ≡ is_idle_too_long since now }
 {
     now.saturating_sub(since) >= MOST_IDLE
-}
-
-/// Returns whether a connection that has been idle since `since` makes room for another one at `now`, both in milliseconds.
-pub fn makes_room(since: u64, now: u64) -> bool
-    ensures { result ≡ makes_room since now }
-{
-    now.saturating_sub(since) >= SETTLED
 }
 
 /// Returns the place of the connection that has been idle longest, if any is idle. `idle` has for each place since when its connection has

@@ -31,7 +31,7 @@ pub use answers::{
 };
 pub use definition_words::push_side;
 pub use http_requests::{HttpRequest, Page, asks_for_page, read_http_request};
-pub use idle::{is_idle_too_long, longest_idle, makes_room};
+pub use idle::{is_idle_too_long, longest_idle};
 pub use lag_metrics::TableLag;
 pub use laws::{lone_event, one_request, rates_at_borders};
 pub use metrics_pages::{

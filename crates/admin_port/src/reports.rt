@@ -207,8 +207,6 @@ pub(crate) fn push_last_error(
 {
     match error {
         Some(LastError::Unreachable) => push_words(text, "unreachable"),
-        Some(LastError::NoAnswer) => push_words(text, "no-answer"),
-        Some(LastError::Lacking) => push_words(text, "no-memory"),
         Some(LastError::Refused(status)) => {
             push_word_and_number(text, "refused-", u64::from(status))
         }

@@ -29,13 +29,13 @@ meeting_of n e turns made ending meeting received sent met followed = (made, e, 
 -- what follows, by the session that the code found
 pub followed_by : (n : Node) (e : Worker) (turns most made taken : ℕ) (ending : Ending) (next : Option KeptSession) (meeting : Meeting) (from to a b : Option (List ℕ))
     → most ≡ turns - n.pace.taken → taken ≡ n.pace.taken + made → next ≡ (if e.session.session.fell_back && nat_lt taken turns then n.fallback else None)
-    → IsPlayed n.pace n.worker most made ending e from to a b → made ≤ most → IsFollowed next n made e ending meeting → HasFollowed n turns meeting from to a b
+    → IsPlayed n.tables.shards n.pace n.worker most made ending e from to a b → made ≤ most → IsFollowed next n made e ending meeting → HasFollowed n turns meeting from to a b
 followed_by n e turns most made taken ending next meeting from to a b is_most is_taken is_next (received, sent, plays, consumed, appended) within followed =
     let same : next ≡ next_session n turns made e = is_next ∙ ap (λ (k : ℕ). if e.session.session.fell_back && nat_lt k turns then n.fallback else None) is_taken in (
       received,
       sent,
       meeting_of n e turns made ending meeting received sent
-          (subst (λ (m : ℕ). Plays n.pace 0 n.worker m made ending received sent e) is_most plays, subst (λ (m : ℕ). made ≤ m) is_most within)
+          (subst (λ (m : ℕ). Plays n.tables.shards n.pace 0 n.worker m made ending received sent e) is_most plays, subst (λ (m : ℕ). made ≤ m) is_most within)
           (subst (λ (s : Option KeptSession). IsFollowed s n made e ending meeting) same followed),
       consumed,
       appended,

@@ -1,5 +1,5 @@
 -- A seat that gains one receipt after another.
-use Rattle.std.proofs.Common.{arith, ◌≡◌, ◌≤◌, ◌<◌, ◌+◌, ◌++◌, ◌∙◌, Bool, ℕ, zero, suc, List, [], ◌∷◌, Ok, Result, ap, drop, get_or, length, map, refl, subst, sym}
+use Rattle.std.proofs.Common.{arith, ◌≡◌, ◌≤◌, ◌<◌, ◌+◌, ◌++◌, ◌∙◌, ℕ, zero, suc, List, [], ◌∷◌, Ok, Result, ap, drop, get_or, length, map, refl, subst, sym}
 use Rattle.std.specs.List.{flat_map}
 use Rattle.std.proofs.lemmas.List.{drop_all}
 use Rattle.table_types.specs.Tables.{Definition}
@@ -31,10 +31,10 @@ one_learned table now u own s e c reply same at is =
     (is ∙ (ap (λ (x : Update). receipted table c s (events.Learn 1 x now) reply) same ∙ ap (λ (m : ℕ). receipted table c s (events.Learn 1 u m) reply) at))
 
 -- after a call of `held` that succeeds and returns no reply, the seat has a receipt with some reply
-pub leaves_ok : {A E : Type 0} (lacks : E → Bool) (call : CellState → Result A E → CellState → Type 0) (event : CellEvent) (reply : A → CellReply) (table : ℕ) (c e : CellState) (s t : SeatState)
-    (r : Result (Unit {0}) (ShardError E)) → r ≡ Ok tt → Leaves lacks call event reply table c s r e t → (answer : A) × (t ≡ receipted table c s event (reply answer))
-leaves_ok {A = A} {E = E} lacks call event reply table c e s t r is leaves =
-    let done = subst (λ (x : Result (Unit {0}) (ShardError E)). Leaves lacks call event reply table c s x e t) is leaves in
+pub leaves_ok : {A E : Type 0} (call : CellState → Result A E → CellState → Type 0) (event : CellEvent) (reply : A → CellReply) (table : ℕ) (c e : CellState) (s t : SeatState)
+    (r : Result (Unit {0}) (ShardError E)) → r ≡ Ok tt → Leaves call event reply table c s r e t → (answer : A) × (t ≡ receipted table c s event (reply answer))
+leaves_ok {A = A} {E = E} call event reply table c e s t r is leaves =
+    let done = subst (λ (x : Result (Unit {0}) (ShardError E)). Leaves call event reply table c s x e t) is leaves in
     (done.0, done.1.2)
 
 -- ---- one after another

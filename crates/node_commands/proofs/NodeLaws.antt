@@ -45,7 +45,7 @@ pub audited_told : (n : Node) (e : Worker) (made taken : ℕ) (report : Report) 
 audited_told n e made taken report is (a, audit, text) = (a, audit, subst (λ (k : ℕ). IsText k a.unlocked.tables report.text.items) is text)
 
 printed_of : (n : Node) (e : Worker) (turns made : ℕ) (ending : Ending) (received sent : List ℕ) (report : Report)
-    → Plays n.pace 0 n.worker (turns - n.pace.taken) made ending received sent e → made ≤ turns - n.pace.taken → IsTold n made e report.text.items → IsPrinted n turns ending received sent report.text.items
+    → Plays n.tables.shards n.pace 0 n.worker (turns - n.pace.taken) made ending received sent e → made ≤ turns - n.pace.taken → IsTold n made e report.text.items → IsPrinted n turns ending received sent report.text.items
 unfolding IsPrinted
 printed_of n e turns made ending received sent report plays within told = (made, e, (plays, within), told)
 
@@ -56,13 +56,13 @@ IsReported n turns from to a b report =
 
 reported_of : (n : Node) (e : Worker) (turns most made taken : ℕ) (ending : Ending) (report : Report) (from to a b : Option (List ℕ))
     → most ≡ turns - n.pace.taken → taken ≡ n.pace.taken + made
-    → IsPlayed n.pace n.worker most made ending e from to a b → made ≤ most → IsAudited n e taken report → report.ending ≡ ending → IsReported n turns from to a b report
+    → IsPlayed n.tables.shards n.pace n.worker most made ending e from to a b → made ≤ most → IsAudited n e taken report → report.ending ≡ ending → IsReported n turns from to a b report
 reported_of n e turns most made taken ending report from to a b is_most is_taken (received, sent, plays, consumed, appended) within audited same = (
   received,
   sent,
   subst (λ (x : Ending). IsPrinted n turns x received sent report.text.items) (sym same)
       (printed_of n e turns made ending received sent report
-      (subst (λ (m : ℕ). Plays n.pace 0 n.worker m made ending received sent e) is_most plays)
+      (subst (λ (m : ℕ). Plays n.tables.shards n.pace 0 n.worker m made ending received sent e) is_most plays)
       (subst (λ (m : ℕ). made ≤ m) is_most within)
       (audited_told n e made taken report is_taken audited)),
   consumed,
@@ -72,7 +72,7 @@ reported_of n e turns most made taken ending report from to a b is_most is_taken
 -- the same of a report that may be missing
 pub report_printed : (n : Node) (e : Worker) (turns most made taken : ℕ) (ending : Ending) (r : Result Report Ending) (from to a b : Option (List ℕ))
     → most ≡ turns - n.pace.taken → taken ≡ n.pace.taken + made
-    → IsPlayed n.pace n.worker most made ending e from to a b → made ≤ most
+    → IsPlayed n.tables.shards n.pace n.worker most made ending e from to a b → made ≤ most
     → IfOk r (IsAudited n e taken) → IfOk r (λ report. report.ending ≡ ending)
     → IfOk r (λ report. (received sent : List ℕ) × IsPrinted n turns report.ending received sent report.text.items × Consumes from to received × Appends a b sent)
 report_printed n e turns most made taken ending (Ok report) from to a b is_most is_taken played within audited same =

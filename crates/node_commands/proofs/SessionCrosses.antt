@@ -18,7 +18,6 @@ use Rattle.session_core.specs.contracts.phase.Stage as Stage
 use Rattle.session_core.specs.contracts.course.Course as Course
 use Rattle.session_core.specs.contracts.machine.Machine as Machine
 use Rattle.session_core.specs.contracts.pace.Pace as Pace
-use Rattle.session_core.specs.contracts.tally.Tally as Tally
 use Rattle.session_core.specs.contracts.stay.Stay as Stay
 use Rattle.session_core.specs.contracts.session.Session as Session
 use Rattle.peers_engine.specs.contracts.worker.Worker as Worker
@@ -65,11 +64,8 @@ machine_send = search (stage_send, course_send, known_send, sendable, crosses) d
 pace_send : IsSend (Pace.the_field).row
 pace_send = search (sendable, crosses) depth 80 fits 20000
 
-tally_send : IsSend (Tally.the_field).row
-tally_send = search (sendable, crosses) depth 80 fits 20000
-
 stay_send : IsSend (Stay.the_field).row
-stay_send = search (pace_send, tally_send, sendable, crosses) depth 80 fits 20000
+stay_send = search (pace_send, sendable, crosses) depth 80 fits 20000
 
 session_send : IsSend (Session.the_field).row
 session_send = search (machine_send, stay_send, sendable, crosses) depth 80 fits 20000

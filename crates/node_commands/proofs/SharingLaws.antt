@@ -2,7 +2,7 @@
 use Rattle.std.proofs.Common.{◌≡◌, ◌∙◌, ◌++◌, ℕ, true, List, [], ◌∷◌, ap, map, subst, sym}
 use Rattle.table_types.specs.Tables.{Definition}
 use Rattle.table_shards.specs.Receipts.{SeatState}
-use Rattle.table_shards.specs.Rounds.{fresh_from}
+use Rattle.table_shards.specs.Rounds.{ShardsState, fresh_from}
 use Rattle.table_shards.proofs.RoundLaws.{map_append}
 use Rattle.session_core.specs.Keeping.{KeptSession}
 use Rattle.peers_engine.specs.declared.worker.Worker.{Worker}
@@ -32,38 +32,39 @@ server_with scene name peer sessions n roster seats rising opened workers fresh 
 
 -- ---- threads
 
-pub none_started : {T : Type 0} (promise : T → TakesTurns) (turns : ℕ) → AreStarted promise turns [] []
-none_started promise turns = tt
+pub none_started : {T : Type 0} (promise : T → TakesTurns) (shards : ShardsState) (turns : ℕ) → AreStarted promise shards turns [] []
+none_started promise shards turns = tt
 
-pub one_more_started : {T : Type 0} (promise : T → TakesTurns) (turns : ℕ) (ws : List Worker) (ts : List T) (w : Worker) (t : T) → AreStarted promise turns ws ts
-    → (promise t).worker.value ≡ w → (promise t).turns ≡ turns → AreStarted promise turns (ws ++ w ∷ []) (ts ++ t ∷ [])
-one_more_started promise turns [] [] w t so_far worker same = (worker, same, tt)
-one_more_started promise turns [] (u ∷ ts) w t so_far worker same = absurd so_far
-one_more_started promise turns (v ∷ ws) [] w t so_far worker same = absurd so_far
-one_more_started promise turns (v ∷ ws) (u ∷ ts) w t (first, second, rest) worker same =
-    (first, second, one_more_started promise turns ws ts w t rest worker same)
+pub one_more_started : {T : Type 0} (promise : T → TakesTurns) (shards : ShardsState) (turns : ℕ) (ws : List Worker) (ts : List T) (w : Worker) (t : T) → AreStarted promise shards turns ws ts
+    → (promise t).worker.value ≡ w → (promise t).shards.value ≡ shards → (promise t).turns ≡ turns → AreStarted promise shards turns (ws ++ w ∷ []) (ts ++ t ∷ [])
+one_more_started promise shards turns [] [] w t so_far worker tables same = (worker, tables, same, tt)
+one_more_started promise shards turns [] (u ∷ ts) w t so_far worker tables same = absurd so_far
+one_more_started promise shards turns (v ∷ ws) [] w t so_far worker tables same = absurd so_far
+one_more_started promise shards turns (v ∷ ws) (u ∷ ts) w t (first, second, third, rest) worker tables same =
+    (first, second, third, one_more_started promise shards turns ws ts w t rest worker tables same)
 
 pub none_kept : {T : Type 0} (promise : T → TakesTurns) → AreKept promise [] []
 none_kept promise = tt
 
 pub one_more_kept : {T : Type 0} (promise : T → TakesTurns) (ts : List T) (ss : List Served) (t : T) (s : Served) → AreKept promise ts ss
-    → HasServed (promise t).turns (promise t).worker.value s → AreKept promise (ts ++ t ∷ []) (ss ++ s ∷ [])
+    → HasServed (promise t).shards.value (promise t).turns (promise t).worker.value s → AreKept promise (ts ++ t ∷ []) (ss ++ s ∷ [])
 one_more_kept promise [] [] t s so_far kept = (kept, tt)
 one_more_kept promise [] (r ∷ ss) t s so_far kept = absurd so_far
 one_more_kept promise (u ∷ ts) [] t s so_far kept = absurd so_far
 one_more_kept promise (u ∷ ts) (r ∷ ss) t s (first, rest) kept = (first, one_more_kept promise ts ss t s rest kept)
 
 -- the promises that were made and kept
-pub all_kept : {T : Type 0} (promise : T → TakesTurns) (turns : ℕ) (ws : List Worker) (ts : List T) (ss : List Served) → AreStarted promise turns ws ts
-    → AreKept promise ts ss → AllServed turns ws ss
-all_kept promise turns [] [] [] started kept = tt
-all_kept promise turns [] [] (s ∷ ss) started kept = absurd kept
-all_kept promise turns [] (t ∷ ts) ss started kept = absurd started
-all_kept promise turns (w ∷ ws) [] ss started kept = absurd started
-all_kept promise turns (w ∷ ws) (t ∷ ts) [] started kept = absurd kept
-all_kept promise turns (w ∷ ws) (t ∷ ts) (s ∷ ss) (worker, same, more) (first, rest) = (
-  subst (λ (n : ℕ). HasServed n w s) same (subst (λ (x : Worker). HasServed (promise t).turns x s) worker first),
-  all_kept promise turns ws ts ss more rest,
+pub all_kept : {T : Type 0} (promise : T → TakesTurns) (shards : ShardsState) (turns : ℕ) (ws : List Worker) (ts : List T) (ss : List Served) → AreStarted promise shards turns ws ts
+    → AreKept promise ts ss → AllServed shards turns ws ss
+all_kept promise shards turns [] [] [] started kept = tt
+all_kept promise shards turns [] [] (s ∷ ss) started kept = absurd kept
+all_kept promise shards turns [] (t ∷ ts) ss started kept = absurd started
+all_kept promise shards turns (w ∷ ws) [] ss started kept = absurd started
+all_kept promise shards turns (w ∷ ws) (t ∷ ts) [] started kept = absurd kept
+all_kept promise shards turns (w ∷ ws) (t ∷ ts) (s ∷ ss) (worker, tables, same, more) (first, rest) = (
+  subst (λ (n : ℕ). HasServed shards n w s) same
+      (subst (λ (x : ShardsState). HasServed x (promise t).turns w s) tables (subst (λ (x : Worker). HasServed (promise t).shards.value (promise t).turns x s) worker first)),
+  all_kept promise shards turns ws ts ss more rest,
 )
 
 -- ---- what is printed
@@ -75,7 +76,7 @@ one_seat seats seat s taken so is =
     ∙ ap (λ (x : SeatState). map (λ (y : Served). y.worker.seat) taken ++ x ∷ []) is
     ∙ sym (map_append (λ (y : Served). y.worker.seat) taken (s ∷ []))
 
-pub shared_with : (n : Server) (turns : ℕ) (ss : List Served) (ending : Ending) (text : List ℕ) → AllServed turns n.workers.items ss → IsTotal n.tables ss ending text
+pub shared_with : (n : Server) (turns : ℕ) (ss : List Served) (ending : Ending) (text : List ℕ) → AllServed n.tables.shards turns n.workers.items ss → IsTotal n.tables ss ending text
     → IsShared n turns ending text
 unfolding IsShared
 shared_with n turns ss ending text served total = (ss, served, total)

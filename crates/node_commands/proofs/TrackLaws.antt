@@ -1,5 +1,5 @@
 -- One track after another.
-use Rattle.std.proofs.Common.{◌≡◌, ◌∙◌, ◌+◌, ◌<◌, ◌≤◌, Bool, ℕ, List, [], ◌∷◌, ◌++◌, Ok, Result, true, false, arith, inl, inr, length, refl, sym, ap, subst, append-nil, append_assoc, length-append}
+use Rattle.std.proofs.Common.{◌≡◌, ◌∙◌, ◌+◌, ◌<◌, ◌≤◌, ℕ, List, [], ◌∷◌, ◌++◌, Ok, Result, true, false, arith, inl, inr, length, refl, sym, ap, subst, append-nil, append_assoc, length-append}
 use Rattle.std.specs.List.{AllByRecursion}
 use Rattle.table_types.specs.declared.change.Change.TheVariants as changes
 use Rattle.table_types.specs.declared.copies.CopyKind.{CopyKind}
@@ -12,7 +12,7 @@ use Rattle.table_cell.specs.declared.events.CellEvent.TheVariants as events
 use Rattle.table_cell.specs.declared.events.CellReply.{CellReply}
 use Rattle.table_cell.specs.declared.events.CellReply.TheVariants as replies
 use Rattle.table_shards.specs.declared.answers.Answered.{Answered}
-use Rattle.table_shards.specs.Receipts.{ReceiptState, SeatState, receipts_of, with_answer, with_refusal}
+use Rattle.table_shards.specs.Receipts.{ReceiptState, SeatState, receipts_of, with_answer}
 use Rattle.table_shards.specs.declared.errors.ShardError.{ShardError}
 use Rattle.table_shards.specs.Holding.{Holds, receipted}
 use Rattle.session_core.specs.declared.event.Event.{Event}
@@ -87,15 +87,15 @@ worked_part threads tracks s e above none (same, made, after, all) =
 -- ---- calls of `held`
 
 -- after a call of `held` that succeeds, the seat is as the call leaves it
-pub held_ok : {A E : Type 0} (lacks : E → Bool) (call : CellState → Result A E → CellState → Type 0) (left : A → SeatState) (table : ℕ) (c e : CellState) (s t : SeatState)
-    (r : Result A (ShardError E)) (a : A) → r ≡ Ok a → Holds lacks call left table c s r e t → t ≡ left a
-held_ok {A = A} {E = E} lacks call left table c e s t r a is holds = (subst (λ (x : Result A (ShardError E)). Holds lacks call left table c s x e t) is holds).2
+pub held_ok : {A E : Type 0} (call : CellState → Result A E → CellState → Type 0) (left : A → SeatState) (table : ℕ) (c e : CellState) (s t : SeatState)
+    (r : Result A (ShardError E)) (a : A) → r ≡ Ok a → Holds call left table c s r e t → t ≡ left a
+held_ok {A = A} {E = E} call left table c e s t r a is holds = (subst (λ (x : Result A (ShardError E)). Holds call left table c s x e t) is holds).2
 
 -- after a call of `held` that makes an event of the worker, the seat has gained it
-pub held_worked : {A E : Type 0} (lacks : E → Bool) (call : CellState → Result A E → CellState → Type 0) (event : CellEvent) (reply : A → CellReply) (c e : CellState) (s t : SeatState)
-    (r : Result A (ShardError E)) (a : A) → is_work event ≡ true → r ≡ Ok a → Holds lacks call (λ x. receipted 1 c s event (reply x)) 1 c s r e t → GainsWork s t
-held_worked lacks call event reply c e s t r a work is holds =
-    subst (GainsWork s) (sym (held_ok lacks call (λ x. receipted 1 c s event (reply x)) 1 c e s t r a is holds)) (one_worked s c event (reply a) work)
+pub held_worked : {A E : Type 0} (call : CellState → Result A E → CellState → Type 0) (event : CellEvent) (reply : A → CellReply) (c e : CellState) (s t : SeatState)
+    (r : Result A (ShardError E)) (a : A) → is_work event ≡ true → r ≡ Ok a → Holds call (λ x. receipted 1 c s event (reply x)) 1 c s r e t → GainsWork s t
+held_worked call event reply c e s t r a work is holds =
+    subst (GainsWork s) (sym (held_ok call (λ x. receipted 1 c s event (reply x)) 1 c e s t r a is holds)) (one_worked s c event (reply a) work)
 
 -- ---- calls of `peers_engine`
 
@@ -103,20 +103,15 @@ held_worked lacks call event reply c e s t r a work is holds =
 pub answered : (s e : SeatState) (a : Answered) → e ≡ with_answer s a → GainsWork s e
 answered s e a is = subst (GainsWork s) (sym is) (refl, [], sym (append-nil (receipts_of 1 s)), tt)
 
--- nor does a call that is refused, whose answer is kept
-refused_worked : (s m e : SeatState) (a : Answered) → m ≡ with_refusal s → e ≡ with_answer m a → GainsWork s e
-refused_worked s m e a counted is =
-    more_worked s m e (subst (GainsWork s) (sym counted) (refl, [], sym (append-nil (receipts_of 1 s)), tt)) (answered m e a is)
-
 pub copied_worked : (now : ℕ) (s t : SeatState) (kind : CopyKind) (event : Event) → IsCopied false 1 now s 1 kind t event → GainsWork s t
 copied_worked now s t kind event (c, at, is, inl (batch, same, (sound, e, (mid, (may, calls, receipt), left)))) =
     subst (GainsWork s) (sym (left ∙ receipt)) (one_worked s c (events.Copy 1 kind 512 at) (replies.Copy batch) refl)
-copied_worked now s t kind event (c, at, is, inr (same, (sound, e, (mid, (may, calls, counted), left)))) = refused_worked s mid t _ counted left
+copied_worked now s t kind event (c, at, is, inr (same, (sound, e, (mid, (may, calls, stays), left)))) = subst (λ (x : SeatState). GainsWork x t) stays (answered mid t _ left)
 
 pub taken_worked : (s t : SeatState) (number : ℕ) (event : Event) → IsTaken 1 s 1 number t event → GainsWork s t
 taken_worked s t number event (inl (settled, same, (c, sound, e, (mid, (may, calls, receipt), left)))) =
     subst (GainsWork s) (sym (left ∙ receipt)) (one_worked s c (events.Ack 1 number) (replies.Ack settled) refl)
-taken_worked s t number event (inr (same, (c, sound, e, (mid, (may, calls, counted), left)))) = refused_worked s mid t _ counted left
+taken_worked s t number event (inr (same, (c, sound, e, (mid, (may, calls, stays), left)))) = subst (λ (x : SeatState). GainsWork x t) stays (answered mid t _ left)
 
 pub settled_worked : (s t : SeatState) (batch : List Update) → IsSettled 1 s batch t → GainsWork s t
 settled_worked s t batch (u, first, c, sound, e, (mid, (may, calls, stays), left)) = subst (λ (x : SeatState). GainsWork x t) stays (answered mid t _ left)

@@ -10,7 +10,8 @@ use Rattle.session_core.specs.declared.event.Event.TheVariants as events
 use Rattle.session_core.specs.declared.state.State.TheVariants as states
 use Rattle.table_shards.specs.Receipts.{SeatState}
 use Rattle.table_shards.specs.Rounds.{ShardsState}
-use Rattle.session_core.specs.Sessions.{SessionState, state_of}
+use Rattle.session_core.specs.Keeping.{KeptSession}
+use Rattle.session_core.specs.Sessions.{state_of}
 use Rattle.peers_engine.specs.declared.errors.EngineError.{EngineError}
 use Rattle.peers_engine.specs.declared.outcome.Outcome.{Outcome}
 use Rattle.peers_engine.specs.declared.outcome.Outcome.TheVariants as outcomes
@@ -24,22 +25,22 @@ use Rattle.node_commands.specs.declared.node.turns.Pace.{Pace}
 use Rattle.node_commands.specs.Turning.{GoesOn, Plays, Rests, Takes, ending_after, moment_of, turn_after}
 
 -- `before` of the turns were made, which received and sent the bytes given, and the session goes on
-abbrev pub SoFar : Pace → Worker → ℕ → ℕ → List ℕ → List ℕ → Worker → Type 0
-SoFar pace start turns before received sent w =
+abbrev pub SoFar : ShardsState → Pace → Worker → ℕ → ℕ → List ℕ → List ℕ → Worker → Type 0
+SoFar shards pace start turns before received sent w =
     (made : ℕ) (ending : Ending) (more out : List ℕ) (e : Worker)
-    → Plays pace before w (turns - before) made ending more out e → Plays pace 0 start turns (before + made) ending (received ++ more) (sent ++ out) e
+    → Plays shards pace before w (turns - before) made ending more out e → Plays shards pace 0 start turns (before + made) ending (received ++ more) (sent ++ out) e
 
-pub begins : (pace : Pace) (w : Worker) (turns : ℕ) → SoFar pace w turns 0 [] [] w
-begins pace w turns made ending more out e plays =
+pub begins : (shards : ShardsState) (pace : Pace) (w : Worker) (turns : ℕ) → SoFar shards pace w turns 0 [] [] w
+begins shards pace w turns made ending more out e plays =
     let left : turns - 0 ≡ turns = omega arith in
     let none : 0 + made ≡ made = omega arith in
-    subst (λ (m : ℕ). Plays pace 0 w turns m ending more out e) (sym none) (subst (λ (n : ℕ). Plays pace 0 w n made ending more out e) left plays)
+    subst (λ (m : ℕ). Plays shards pace 0 w turns m ending more out e) (sym none) (subst (λ (n : ℕ). Plays shards pace 0 w n made ending more out e) left plays)
 
 -- a turn after which the session goes on
-goes_first : (pace : Pace) (before : ℕ) (w mid e : Worker) (left made : ℕ) (gave : Result Outcome EngineError) (ending : Ending) (first out more others : List ℕ)
-    → Takes (turn_after pace before w) gave first out (turn_after pace before mid) → ending_after pace.leaves mid.session.session gave ≡ None → Plays pace (before + 1) mid left made ending more others e
-    → Plays pace before w (suc left) (made + 1) ending (first ++ more) (out ++ others) e
-goes_first pace before w mid e left made gave ending first out more others takes none plays = (
+goes_first : (shards : ShardsState) (pace : Pace) (before : ℕ) (w mid e : Worker) (left made : ℕ) (gave : Result Outcome EngineError) (ending : Ending) (first out more others : List ℕ)
+    → Takes shards (turn_after pace before w) gave first out (turn_after pace before mid) → ending_after pace.leaves mid.session.session gave ≡ None → Plays shards pace (before + 1) mid left made ending more others e
+    → Plays shards pace before w (suc left) (made + 1) ending (first ++ more) (out ++ others) e
+goes_first shards pace before w mid e left made gave ending first out more others takes none plays = (
   gave,
   mid,
   first,
@@ -49,14 +50,14 @@ goes_first pace before w mid e left made gave ending first out more others takes
   takes,
   refl,
   refl,
-  subst (λ (o : Option Ending). GoesOn o (made + 1) ending (Rests mid more others e) ((later : ℕ) × (made + 1 ≡ later + 1) × Plays pace (before + 1) mid left later ending more others e)) (sym none)
+  subst (λ (o : Option Ending). GoesOn o (made + 1) ending (Rests mid more others e) ((later : ℕ) × (made + 1 ≡ later + 1) × Plays shards pace (before + 1) mid left later ending more others e)) (sym none)
       (made, refl, plays),
 )
 
 -- the turn after which the session ends
-ends_first : (pace : Pace) (before : ℕ) (w mid : Worker) (left : ℕ) (gave : Result Outcome EngineError) (ending : Ending) (first out : List ℕ)
-    → Takes (turn_after pace before w) gave first out (turn_after pace before mid) → ending_after pace.leaves mid.session.session gave ≡ Some ending → Plays pace before w (suc left) 1 ending first out mid
-ends_first pace before w mid left gave ending first out takes some = (
+ends_first : (shards : ShardsState) (pace : Pace) (before : ℕ) (w mid : Worker) (left : ℕ) (gave : Result Outcome EngineError) (ending : Ending) (first out : List ℕ)
+    → Takes shards (turn_after pace before w) gave first out (turn_after pace before mid) → ending_after pace.leaves mid.session.session gave ≡ Some ending → Plays shards pace before w (suc left) 1 ending first out mid
+ends_first shards pace before w mid left gave ending first out takes some = (
   gave,
   mid,
   first,
@@ -66,86 +67,86 @@ ends_first pace before w mid left gave ending first out takes some = (
   takes,
   sym (append-nil first),
   sym (append-nil out),
-  subst (λ (o : Option Ending). GoesOn o 1 ending (Rests mid [] [] mid) ((later : ℕ) × (1 ≡ later + 1) × Plays pace (before + 1) mid left later ending [] [] mid)) (sym some)
+  subst (λ (o : Option Ending). GoesOn o 1 ending (Rests mid [] [] mid) ((later : ℕ) × (1 ≡ later + 1) × Plays shards pace (before + 1) mid left later ending [] [] mid)) (sym some)
       (refl, refl, (refl, refl, refl)),
 )
 
-pub one_more : (pace : Pace) (start w mid : Worker) (turns before : ℕ) (gave : Result Outcome EngineError) (received sent first out : List ℕ) → before < turns
-    → SoFar pace start turns before received sent w → Takes (turn_after pace before w) gave first out (turn_after pace before mid) → ending_after pace.leaves mid.session.session gave ≡ None
-    → SoFar pace start turns (before + 1) (received ++ first) (sent ++ out) mid
-one_more pace start w mid turns before gave received sent first out room so_far takes none made ending more others e plays =
+pub one_more : (shards : ShardsState) (pace : Pace) (start w mid : Worker) (turns before : ℕ) (gave : Result Outcome EngineError) (received sent first out : List ℕ) → before < turns
+    → SoFar shards pace start turns before received sent w → Takes shards (turn_after pace before w) gave first out (turn_after pace before mid) → ending_after pace.leaves mid.session.session gave ≡ None
+    → SoFar shards pace start turns (before + 1) (received ++ first) (sent ++ out) mid
+one_more shards pace start w mid turns before gave received sent first out room so_far takes none made ending more others e plays =
     let left : turns - before ≡ suc (turns - (before + 1)) = omega arith in
     let counted : before + (made + 1) ≡ (before + 1) + made = omega arith in
-    let here = goes_first pace before w mid e (turns - (before + 1)) made gave ending first out more others takes none plays in
-    let there = so_far (made + 1) ending (first ++ more) (out ++ others) e (subst (λ (n : ℕ). Plays pace before w n (made + 1) ending (first ++ more) (out ++ others) e) (sym left) here) in
-    subst (λ (m : ℕ). Plays pace 0 start turns m ending ((received ++ first) ++ more) ((sent ++ out) ++ others) e) counted
-    (subst (λ (r : List ℕ). Plays pace 0 start turns (before + (made + 1)) ending r ((sent ++ out) ++ others) e) (sym (append_assoc received first more))
-    (subst (λ (o : List ℕ). Plays pace 0 start turns (before + (made + 1)) ending (received ++ (first ++ more)) o e) (sym (append_assoc sent out others)) there))
+    let here = goes_first shards pace before w mid e (turns - (before + 1)) made gave ending first out more others takes none plays in
+    let there = so_far (made + 1) ending (first ++ more) (out ++ others) e (subst (λ (n : ℕ). Plays shards pace before w n (made + 1) ending (first ++ more) (out ++ others) e) (sym left) here) in
+    subst (λ (m : ℕ). Plays shards pace 0 start turns m ending ((received ++ first) ++ more) ((sent ++ out) ++ others) e) counted
+    (subst (λ (r : List ℕ). Plays shards pace 0 start turns (before + (made + 1)) ending r ((sent ++ out) ++ others) e) (sym (append_assoc received first more))
+    (subst (λ (o : List ℕ). Plays shards pace 0 start turns (before + (made + 1)) ending (received ++ (first ++ more)) o e) (sym (append_assoc sent out others)) there))
 
-pub stops : (pace : Pace) (start w mid : Worker) (turns before : ℕ) (gave : Result Outcome EngineError) (ending : Ending) (received sent first out : List ℕ) → before < turns
-    → SoFar pace start turns before received sent w → Takes (turn_after pace before w) gave first out (turn_after pace before mid) → ending_after pace.leaves mid.session.session gave ≡ Some ending
-    → Plays pace 0 start turns (before + 1) ending (received ++ first) (sent ++ out) mid
-stops pace start w mid turns before gave ending received sent first out room so_far takes some =
+pub stops : (shards : ShardsState) (pace : Pace) (start w mid : Worker) (turns before : ℕ) (gave : Result Outcome EngineError) (ending : Ending) (received sent first out : List ℕ) → before < turns
+    → SoFar shards pace start turns before received sent w → Takes shards (turn_after pace before w) gave first out (turn_after pace before mid) → ending_after pace.leaves mid.session.session gave ≡ Some ending
+    → Plays shards pace 0 start turns (before + 1) ending (received ++ first) (sent ++ out) mid
+stops shards pace start w mid turns before gave ending received sent first out room so_far takes some =
     let left : turns - before ≡ suc (turns - (before + 1)) = omega arith in
     so_far 1 ending first out mid
-    (subst (λ (n : ℕ). Plays pace before w n 1 ending first out mid) (sym left) (ends_first pace before w mid (turns - (before + 1)) gave ending first out takes some))
+    (subst (λ (n : ℕ). Plays shards pace before w n 1 ending first out mid) (sym left) (ends_first shards pace before w mid (turns - (before + 1)) gave ending first out takes some))
 
-pub all_made : (pace : Pace) (start w : Worker) (turns before : ℕ) (received sent : List ℕ) → turns ≤ before → before ≤ turns
-    → SoFar pace start turns before received sent w → Plays pace 0 start turns turns endings.Done received sent w
-all_made pace start w turns before received sent enough most so_far =
+pub all_made : (shards : ShardsState) (pace : Pace) (start w : Worker) (turns before : ℕ) (received sent : List ℕ) → turns ≤ before → before ≤ turns
+    → SoFar shards pace start turns before received sent w → Plays shards pace 0 start turns turns endings.Done received sent w
+all_made shards pace start w turns before received sent enough most so_far =
     let none : turns - before ≡ 0 = omega arith in
     let counted : before + 0 ≡ turns = omega arith in
-    let here : Plays pace before w 0 0 endings.Done [] [] w = (refl, refl, (refl, refl, refl)) in
-    let there = so_far 0 endings.Done [] [] w (subst (λ (n : ℕ). Plays pace before w n 0 endings.Done [] [] w) (sym none) here) in
-    subst (λ (m : ℕ). Plays pace 0 start turns m endings.Done received sent w) counted
-    (subst (λ (r : List ℕ). Plays pace 0 start turns (before + 0) endings.Done r sent w) (append-nil received)
-    (subst (λ (o : List ℕ). Plays pace 0 start turns (before + 0) endings.Done (received ++ []) o w) (append-nil sent) there))
+    let here : Plays shards pace before w 0 0 endings.Done [] [] w = (refl, refl, (refl, refl, refl)) in
+    let there = so_far 0 endings.Done [] [] w (subst (λ (n : ℕ). Plays shards pace before w n 0 endings.Done [] [] w) (sym none) here) in
+    subst (λ (m : ℕ). Plays shards pace 0 start turns m endings.Done received sent w) counted
+    (subst (λ (r : List ℕ). Plays shards pace 0 start turns (before + 0) endings.Done r sent w) (append-nil received)
+    (subst (λ (o : List ℕ). Plays shards pace 0 start turns (before + 0) endings.Done (received ++ []) o w) (append-nil sent) there))
 
 -- ---- what the reader lost, and what the writer gained
 
 -- the turns so far, with the reader and the writer before and after them
-abbrev pub HasPlayed : Pace → Worker → ℕ → ℕ → Worker → Option (List ℕ) → Option (List ℕ) → Option (List ℕ) → Option (List ℕ) → Type 0
-HasPlayed pace start turns before w from to a b =
-    (received sent : List ℕ) × SoFar pace start turns before received sent w × Consumes from to received × Appends a b sent
+abbrev pub HasPlayed : ShardsState → Pace → Worker → ℕ → ℕ → Worker → Option (List ℕ) → Option (List ℕ) → Option (List ℕ) → Option (List ℕ) → Type 0
+HasPlayed shards pace start turns before w from to a b =
+    (received sent : List ℕ) × SoFar shards pace start turns before received sent w × Consumes from to received × Appends a b sent
 
 -- one turn, with the same
-abbrev pub HasTaken : WorkerAt → Result Outcome EngineError → WorkerAt → Option (List ℕ) → Option (List ℕ) → Option (List ℕ) → Option (List ℕ) → Type 0
-HasTaken w gave e from to a b = (received sent : List ℕ) × Takes w gave received sent e × Consumes from to received × Appends a b sent
+abbrev pub HasTaken : ShardsState → WorkerAt → Result Outcome EngineError → WorkerAt → Option (List ℕ) → Option (List ℕ) → Option (List ℕ) → Option (List ℕ) → Type 0
+HasTaken shards w gave e from to a b = (received sent : List ℕ) × Takes shards w gave received sent e × Consumes from to received × Appends a b sent
 
 -- all turns of the session, with the same
-abbrev pub IsPlayed : Pace → Worker → ℕ → ℕ → Ending → Worker → Option (List ℕ) → Option (List ℕ) → Option (List ℕ) → Option (List ℕ) → Type 0
-IsPlayed pace start turns made ending e from to a b =
-    (received sent : List ℕ) × Plays pace 0 start turns made ending received sent e × Consumes from to received × Appends a b sent
+abbrev pub IsPlayed : ShardsState → Pace → Worker → ℕ → ℕ → Ending → Worker → Option (List ℕ) → Option (List ℕ) → Option (List ℕ) → Option (List ℕ) → Type 0
+IsPlayed shards pace start turns made ending e from to a b =
+    (received sent : List ℕ) × Plays shards pace 0 start turns made ending received sent e × Consumes from to received × Appends a b sent
 
-pub begins_there : (pace : Pace) (w : Worker) (turns : ℕ) (from a : Option (List ℕ)) → HasPlayed pace w turns 0 w from from a a
-begins_there pace w turns from a = ([], [], begins pace w turns, Consumes-nil from, Appends-nil a)
+pub begins_there : (shards : ShardsState) (pace : Pace) (w : Worker) (turns : ℕ) (from a : Option (List ℕ)) → HasPlayed shards pace w turns 0 w from from a a
+begins_there shards pace w turns from a = ([], [], begins shards pace w turns, Consumes-nil from, Appends-nil a)
 
-pub one_more_there : (pace : Pace) (start w mid : Worker) (turns before : ℕ) (gave : Result Outcome EngineError) (from then to a b d : Option (List ℕ)) → before < turns
-    → HasPlayed pace start turns before w from then a b → HasTaken (turn_after pace before w) gave (turn_after pace before mid) then to b d → ending_after pace.leaves mid.session.session gave ≡ None
-    → HasPlayed pace start turns (before + 1) mid from to a d
-one_more_there pace start w mid turns before gave from then to a b d room (received, sent, so_far, consumed, appended) (first, out, takes, more, further) none = (
+pub one_more_there : (shards : ShardsState) (pace : Pace) (start w mid : Worker) (turns before : ℕ) (gave : Result Outcome EngineError) (from then to a b d : Option (List ℕ)) → before < turns
+    → HasPlayed shards pace start turns before w from then a b → HasTaken shards (turn_after pace before w) gave (turn_after pace before mid) then to b d → ending_after pace.leaves mid.session.session gave ≡ None
+    → HasPlayed shards pace start turns (before + 1) mid from to a d
+one_more_there shards pace start w mid turns before gave from then to a b d room (received, sent, so_far, consumed, appended) (first, out, takes, more, further) none = (
   received ++ first,
   sent ++ out,
-  one_more pace start w mid turns before gave received sent first out room so_far takes none,
+  one_more shards pace start w mid turns before gave received sent first out room so_far takes none,
   Consumes-trans from then to received first consumed more,
   Appends-trans a b d sent out appended further,
 )
 
-pub stops_there : (pace : Pace) (start w mid : Worker) (turns before : ℕ) (gave : Result Outcome EngineError) (ending : Ending) (from then to a b d : Option (List ℕ)) → before < turns
-    → HasPlayed pace start turns before w from then a b → HasTaken (turn_after pace before w) gave (turn_after pace before mid) then to b d → ending_after pace.leaves mid.session.session gave ≡ Some ending
-    → IsPlayed pace start turns (before + 1) ending mid from to a d
-stops_there pace start w mid turns before gave ending from then to a b d room (received, sent, so_far, consumed, appended) (first, out, takes, more, further) some = (
+pub stops_there : (shards : ShardsState) (pace : Pace) (start w mid : Worker) (turns before : ℕ) (gave : Result Outcome EngineError) (ending : Ending) (from then to a b d : Option (List ℕ)) → before < turns
+    → HasPlayed shards pace start turns before w from then a b → HasTaken shards (turn_after pace before w) gave (turn_after pace before mid) then to b d → ending_after pace.leaves mid.session.session gave ≡ Some ending
+    → IsPlayed shards pace start turns (before + 1) ending mid from to a d
+stops_there shards pace start w mid turns before gave ending from then to a b d room (received, sent, so_far, consumed, appended) (first, out, takes, more, further) some = (
   received ++ first,
   sent ++ out,
-  stops pace start w mid turns before gave ending received sent first out room so_far takes some,
+  stops shards pace start w mid turns before gave ending received sent first out room so_far takes some,
   Consumes-trans from then to received first consumed more,
   Appends-trans a b d sent out appended further,
 )
 
-pub all_made_there : (pace : Pace) (start w : Worker) (turns before : ℕ) (from to a b : Option (List ℕ)) → turns ≤ before → before ≤ turns
-    → HasPlayed pace start turns before w from to a b → IsPlayed pace start turns turns endings.Done w from to a b
-all_made_there pace start w turns before from to a b enough most (received, sent, so_far, consumed, appended) =
-    (received, sent, all_made pace start w turns before received sent enough most so_far, consumed, appended)
+pub all_made_there : (shards : ShardsState) (pace : Pace) (start w : Worker) (turns before : ℕ) (from to a b : Option (List ℕ)) → turns ≤ before → before ≤ turns
+    → HasPlayed shards pace start turns before w from to a b → IsPlayed shards pace start turns turns endings.Done w from to a b
+all_made_there shards pace start w turns before from to a b enough most (received, sent, so_far, consumed, appended) =
+    (received, sent, all_made shards pace start w turns before received sent enough most so_far, consumed, appended)
 
 -- ---- one turn
 
@@ -156,6 +157,9 @@ still_read at_end (Some (events.Bytes bytes)) received reads = reads
 still_read at_end (Some events.End) received (ends, none) = (none, none)
 still_read at_end (Some events.Opened) received reads = absurd reads
 still_read at_end (Some events.ReadFault) received reads = absurd reads
+still_read at_end (Some events.Tick) received reads = absurd reads
+still_read at_end (Some events.Ask) received reads = absurd reads
+still_read at_end (Some events.CaughtUp) received reads = absurd reads
 still_read at_end (Some events.Turn) received reads = absurd reads
 still_read at_end (Some (events.Copied table batch)) received reads = absurd reads
 still_read at_end (Some (events.Nothing table)) received reads = absurd reads
@@ -169,36 +173,36 @@ still_takes : {untouched : Type 0} (w e : WorkerAt) (event : Option Event) (rece
 still_takes w e event received sent reads (inl (still, none, reacts)) = inl (subst (λ (x : Option Event). IsRead (received ≡ []) x received) none reads, none, reacts)
 still_takes w e event received sent reads (inr more) = inr more
 
-still_stops : (shards : ShardsState) {untouched : Type 0} (w : WorkerAt) (e : SessionState) (seat : SeatState) (event : Option Event) (error : EngineError) (received sent : List ℕ) → IsRead (received ≡ []) event received → StopsTurn shards untouched w event error sent e seat
+still_stops : (shards : ShardsState) {untouched : Type 0} (w : WorkerAt) (e : KeptSession) (seat : SeatState) (event : Option Event) (error : EngineError) (received sent : List ℕ) → IsRead (received ≡ []) event received → StopsTurn shards untouched w event error sent e seat
     → StopsTurn shards (received ≡ []) w event error sent e seat
 still_stops shards w e seat event error received sent reads (inl (still, none, halts)) = inl (subst (λ (x : Option Event). IsRead (received ≡ []) x received) none reads, none, halts)
 still_stops shards w e seat event error received sent reads (inr more) = inr more
 
-ok_way : {untouched : Type 0} (at_end : Type 0) (w e : WorkerAt) (gave : Outcome) (from to a b : Option (List ℕ)) (x y : WriteCounts)
+ok_way : (shards : ShardsState) {untouched : Type 0} (at_end : Type 0) (w e : WorkerAt) (gave : Outcome) (from to a b : Option (List ℕ)) (x y : WriteCounts)
     → (event : Option Event) × (received sent : List ℕ) × IsRead at_end event received × TakesTurn untouched w event sent e × Consumes from to received × AreWritten (written a x) (written b y) sent
-    → ((gave ≡ outcomes.Closed) ↔ (state_of e.session.session.phase ≡ states.Ended)) → HasTaken w (Ok gave) e from to a b
-ok_way at_end w e gave from to a b x y (event, received, sent, given, takes, consumed, wrote) closed =
+    → ((gave ≡ outcomes.Closed) ↔ (state_of e.session.session.phase ≡ states.Ended)) → HasTaken shards w (Ok gave) e from to a b
+ok_way shards at_end w e gave from to a b x y (event, received, sent, given, takes, consumed, wrote) closed =
     let reads = still_read at_end event received given in
     (received, sent, ((event, reads, still_takes w e event received sent reads takes), closed), consumed, wrote.0)
 
 err_way : (shards : ShardsState) {untouched : Type 0} (at_end : Type 0) (w e : WorkerAt) (error : EngineError) (from to a b : Option (List ℕ)) (x y : WriteCounts)
-    → (event : Option Event) × (received sent : List ℕ) × IsRead at_end event received × StopsTurn shards untouched w event error sent e.session.session e.seat × Consumes from to received × AreWritten (written a x) (written b y) sent
-    → state_of e.session.session.phase ≡ states.Ended → HasTaken w (Err error) e from to a b
+    → (event : Option Event) × (received sent : List ℕ) × IsRead at_end event received × StopsTurn shards untouched w event error sent e.session e.seat × Consumes from to received × AreWritten (written a x) (written b y) sent
+    → state_of e.session.session.phase ≡ states.Ended → HasTaken shards w (Err error) e from to a b
 err_way shards at_end w e error from to a b x y (event, received, sent, given, stops, consumed, wrote) over =
     let reads = still_read at_end event received given in
-    (received, sent, ((event, shards, reads, still_stops shards w e.session.session e.seat event error received sent reads stops), over), consumed, wrote.0)
+    (received, sent, ((event, reads, still_stops shards w e.session e.seat event error received sent reads stops), over), consumed, wrote.0)
 
 -- a turn, from the contract for its success and the one for its error
 pub both_ways : (shards : ShardsState) (at_end untouched : Type 0) (w e : WorkerAt) (gave : Result Outcome EngineError) (from to a b : Option (List ℕ)) (x y : WriteCounts)
     → OnOk gave ((event : Option Event) × (received sent : List ℕ) × IsRead at_end event received × TakesTurn untouched w event sent e × Consumes from to received × AreWritten (written a x) (written b y) sent)
     → IfOk gave (λ t. (t ≡ outcomes.Closed) ↔ (state_of e.session.session.phase ≡ states.Ended))
-    → IfErr gave (λ error. (event : Option Event) × (received sent : List ℕ) × IsRead at_end event received × StopsTurn shards untouched w event error sent e.session.session e.seat × Consumes from to received × AreWritten (written a x) (written b y) sent)
-    → OnErr gave (state_of e.session.session.phase ≡ states.Ended) → HasTaken w gave e from to a b
-both_ways shards at_end untouched w e (Ok gave) from to a b x y wrote closed stopped over = ok_way at_end w e gave from to a b x y wrote closed
+    → IfErr gave (λ error. (event : Option Event) × (received sent : List ℕ) × IsRead at_end event received × StopsTurn shards untouched w event error sent e.session e.seat × Consumes from to received × AreWritten (written a x) (written b y) sent)
+    → OnErr gave (state_of e.session.session.phase ≡ states.Ended) → HasTaken shards w gave e from to a b
+both_ways shards at_end untouched w e (Ok gave) from to a b x y wrote closed stopped over = ok_way shards at_end w e gave from to a b x y wrote closed
 both_ways shards at_end untouched w e (Err error) from to a b x y wrote closed stopped over = err_way shards at_end w e error from to a b x y stopped over
 
 -- a turn at the moment that belongs to it is the turn after `before` others
-pub taken_after : (pace : Pace) (before now : ℕ) (w e : Worker) (gave : Result Outcome EngineError) (from to a b : Option (List ℕ)) → now ≡ moment_of pace before
-    → HasTaken (worker w.session w.seat w.number now) gave (worker e.session e.seat e.number now) from to a b → HasTaken (turn_after pace before w) gave (turn_after pace before e) from to a b
-taken_after pace before now w e gave from to a b is taken =
-    subst (λ (n : ℕ). HasTaken (worker w.session w.seat w.number n) gave (worker e.session e.seat e.number n) from to a b) is taken
+pub taken_after : (shards : ShardsState) (pace : Pace) (before now : ℕ) (w e : Worker) (gave : Result Outcome EngineError) (from to a b : Option (List ℕ)) → now ≡ moment_of pace before
+    → HasTaken shards (worker w.session w.seat w.number now) gave (worker e.session e.seat e.number now) from to a b → HasTaken shards (turn_after pace before w) gave (turn_after pace before e) from to a b
+taken_after shards pace before now w e gave from to a b is taken =
+    subst (λ (n : ℕ). HasTaken shards (worker w.session w.seat w.number n) gave (worker e.session e.seat e.number n) from to a b) is taken

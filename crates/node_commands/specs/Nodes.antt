@@ -54,10 +54,10 @@ IsJoining scene name peer n =
     × (n.pace ≡ record { leaves = true; stands = false; taken = 0 })
     × (n.fallback ≡ Some (joining_session name peer versions.V20 roster))
 
--- Over a connection, a node's session made `made` turns, received and sent the bytes given, and left the worker as `e`. It made at most
+-- Over a connection, a node's session made `made` turns with the node's tables, received and sent the bytes given, and left the worker as `e`. It made at most
 -- `turns` turns, together with those of an earlier session.
 abbrev pub HasMet : Node → ℕ → ℕ → Ending → List ℕ → List ℕ → Worker → Type 0
-HasMet n turns made ending received sent e = Plays n.pace 0 n.worker (turns - n.pace.taken) made ending received sent e × (made ≤ turns - n.pace.taken)
+HasMet n turns made ending received sent e = Plays n.tables.shards n.pace 0 n.worker (turns - n.pace.taken) made ending received sent e × (made ≤ turns - n.pace.taken)
 
 -- What is printed then: how many turns the node's sessions made, and the rows of its tables, as an audit found them with the seat that
 -- loaded them and the session's seat after its turns.

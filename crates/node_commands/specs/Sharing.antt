@@ -2,7 +2,7 @@
 use Rattle.std.specs.Prelude.{◌≡◌, ◌-◌, ℕ, Bool, true, false, List, [], ◌∷◌, if◌then◌else◌, map, sum_by}
 use Rattle.table_types.specs.Tables.{Definition}
 use Rattle.table_shards.specs.Receipts.{SeatState}
-use Rattle.table_shards.specs.Rounds.{fresh_from}
+use Rattle.table_shards.specs.Rounds.{ShardsState, fresh_from}
 use Rattle.table_shards.specs.Audits.{AuditState}
 use Rattle.session_core.specs.Keeping.{KeptSession, plain}
 use Rattle.session_core.specs.Sessions.{accepting}
@@ -39,22 +39,22 @@ IsServer scene name peer sessions n =
 
 -- ---- sessions that run side by side
 
--- each worker took its turns
-abbrev pub AllServed : ℕ → List Worker → List Served → Type 0
-AllServed turns [] [] = Unit {0}
-AllServed turns (w ∷ ws) (s ∷ ss) = HasServed turns w s × AllServed turns ws ss
-AllServed turns ws ss = ⊥
+-- each worker took its turns with these tables
+abbrev pub AllServed : ShardsState → ℕ → List Worker → List Served → Type 0
+AllServed shards turns [] [] = Unit {0}
+AllServed shards turns (w ∷ ws) (s ∷ ss) = HasServed shards turns w s × AllServed shards turns ws ss
+AllServed shards turns ws ss = ⊥
 
--- for each worker there is a thread that promises its turns
-abbrev pub AreStarted : {T : Type 0} → (T → TakesTurns) → ℕ → List Worker → List T → Type 0
-AreStarted promise turns [] [] = Unit {0}
-AreStarted promise turns (w ∷ ws) (t ∷ ts) = ((promise t).worker.value ≡ w) × ((promise t).turns ≡ turns) × AreStarted promise turns ws ts
-AreStarted promise turns ws ts = ⊥
+-- for each worker there is a thread that promises its turns with these tables
+abbrev pub AreStarted : {T : Type 0} → (T → TakesTurns) → ShardsState → ℕ → List Worker → List T → Type 0
+AreStarted promise shards turns [] [] = Unit {0}
+AreStarted promise shards turns (w ∷ ws) (t ∷ ts) = ((promise t).worker.value ≡ w) × ((promise t).shards.value ≡ shards) × ((promise t).turns ≡ turns) × AreStarted promise shards turns ws ts
+AreStarted promise shards turns ws ts = ⊥
 
 -- each thread kept its promise
 abbrev pub AreKept : {T : Type 0} → (T → TakesTurns) → List T → List Served → Type 0
 AreKept promise [] [] = Unit {0}
-AreKept promise (t ∷ ts) (s ∷ ss) = HasServed (promise t).turns (promise t).worker.value s × AreKept promise ts ss
+AreKept promise (t ∷ ts) (s ∷ ss) = HasServed (promise t).shards.value (promise t).turns (promise t).worker.value s × AreKept promise ts ss
 AreKept promise ts ss = ⊥
 
 -- ---- what is printed
@@ -80,4 +80,4 @@ IsTotal t ss ending text =
 
 -- what a node prints that serves several sessions of at most `turns` turns each
 unfoldable pub IsShared : Server → ℕ → Ending → List ℕ → Type 0
-IsShared n turns ending text = (ss : List Served) × AllServed turns n.workers.items ss × IsTotal n.tables ss ending text
+IsShared n turns ending text = (ss : List Served) × AllServed n.tables.shards turns n.workers.items ss × IsTotal n.tables ss ending text

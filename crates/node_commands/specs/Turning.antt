@@ -53,13 +53,13 @@ turn_at now w = worker w.session w.seat w.number now
 abbrev pub turn_after : Pace → ℕ → Worker → WorkerAt
 turn_after pace before w = turn_at (moment_of pace before) w
 
--- A turn takes the worker to another state, returns its result, and received and sent the bytes given. After an error the session
--- is over. `Takes` says that the turn had some tables, not which ones.
-abbrev pub Takes : WorkerAt → Result Outcome EngineError → List ℕ → List ℕ → WorkerAt → Type 0
-Takes w (Ok gave) received sent e =
+-- A turn with these tables takes the worker to another state, returns its result, and received and sent the bytes given. After an error
+-- the session is over.
+abbrev pub Takes : ShardsState → WorkerAt → Result Outcome EngineError → List ℕ → List ℕ → WorkerAt → Type 0
+Takes shards w (Ok gave) received sent e =
     ((event : Option Event) × IsRead (received ≡ []) event received × TakesTurn (received ≡ []) w event sent e) × ((gave ≡ outcomes.Closed) ↔ (state_of e.session.session.phase ≡ states.Ended))
-Takes w (Err error) received sent e =
-    ((event : Option Event) × (shards : ShardsState) × IsRead (received ≡ []) event received × StopsTurn shards (received ≡ []) w event error sent e.session.session e.seat)
+Takes shards w (Err error) received sent e =
+    ((event : Option Event) × IsRead (received ≡ []) event received × StopsTurn shards (received ≡ []) w event error sent e.session e.seat)
     × (state_of e.session.session.phase ≡ states.Ended)
 
 -- nothing more is received or sent, and the worker stays as it is
@@ -71,17 +71,17 @@ abbrev pub GoesOn : Option Ending → ℕ → Ending → Type 0 → Type 0 → T
 GoesOn None made ending rests on = on
 GoesOn (Some by) made ending rests on = (made ≡ 1) × (ending ≡ by) × rests
 
--- After `before` turns, the worker makes `made` more, of at most as many as given. It makes them one after another, up to the one
+-- After `before` turns, the worker makes `made` more with these tables, of at most as many as given. It makes them one after another, up to the one
 -- after which its session ends; if none ends it, it ends with `Done`. The worker received and sent the bytes given, one turn's after
 -- another's.
-abbrev pub Plays : Pace → ℕ → Worker → ℕ → ℕ → Ending → List ℕ → List ℕ → Worker → Type 0
-Plays pace before w zero made ending received sent e = (made ≡ 0) × (ending ≡ endings.Done) × Rests w received sent e
-Plays pace before w (suc left) made ending received sent e =
+abbrev pub Plays : ShardsState → Pace → ℕ → Worker → ℕ → ℕ → Ending → List ℕ → List ℕ → Worker → Type 0
+Plays shards pace before w zero made ending received sent e = (made ≡ 0) × (ending ≡ endings.Done) × Rests w received sent e
+Plays shards pace before w (suc left) made ending received sent e =
     (gave : Result Outcome EngineError)
     × (mid : Worker)
     × (first out later_received later_sent : List ℕ)
-    × Takes (turn_after pace before w) gave first out (turn_after pace before mid)
+    × Takes shards (turn_after pace before w) gave first out (turn_after pace before mid)
     × (received ≡ first ++ later_received)
     × (sent ≡ out ++ later_sent)
     × GoesOn (ending_after pace.leaves mid.session.session gave) made ending (Rests mid later_received later_sent e)
-    ((later : ℕ) × (made ≡ later + 1) × Plays pace (before + 1) mid left later ending later_received later_sent e)
+    ((later : ℕ) × (made ≡ later + 1) × Plays shards pace (before + 1) mid left later ending later_received later_sent e)

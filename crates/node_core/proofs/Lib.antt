@@ -4,4 +4,7 @@ pub mod Looks
 pub mod ReasonLaws
 pub mod Rounds
 pub mod SameShapes
+pub mod Seconds
+pub mod TickLaws
+pub mod Turns
 pub mod Waiting

@@ -7,12 +7,12 @@ use Rattle.std.proofs.lemmas.Bool.Decides.{nat_tests}
 use Rattle.node_core.specs.declared.asking.Standing.{Standing}
 use Rattle.node_core.specs.declared.asking.Standing.TheVariants as standings
 use Rattle.node_core.specs.declared.asking.Candidate.{Candidate}
-use Rattle.node_core.specs.CatchingUp.{AskingState, asked, brought, can_be_asked, changed, heard, is_asked, is_due, is_first, is_no_later, is_next, is_rested, owes, stood}
+use Rattle.node_core.specs.CatchingUp.{AskingState, asked, brought, can_be_asked, changed, heard, is_asked, is_due, is_first, is_no_later, is_next, is_overdue, is_rested, owes, stood}
 use Rattle.node_core.specs.AskingRuns.{Answer, Finished, Partial, Nothing, CanBeAsked, Rounds, answered, was_before}
 
 -- ---- tests
 
-and_true : (a b : Bool) → (a && b) ≡ true → (a ≡ true) × (b ≡ true)
+pub and_true : (a b : Bool) → (a && b) ≡ true → (a ≡ true) × (b ≡ true)
 and_true true b h = (refl, h)
 and_true false b h = cc
 
@@ -31,7 +31,7 @@ passes p (d ∷ cs) (suc i) c all found = passes p cs i c (and_true (p d) (list_
 
 -- ---- which peer was asked longest ago
 
-itself : (t : Option ℕ) → is_no_later t t ≡ true
+pub itself : (t : Option ℕ) → is_no_later t t ≡ true
 itself None = refl
 itself (Some n) = le-leb n n (omega arith)
 
@@ -47,7 +47,7 @@ through (Some m) (Some n) None one two = cc
 through (Some m) (Some n) (Some k) one two = grind (arith, nat_tests)
 
 -- that can't be asked, or was asked no earlier than then
-abbrev is_behind : ℕ → Option ℕ → Candidate → Bool
+abbrev pub is_behind : ℕ → Option ℕ → Candidate → Bool
 is_behind now t q = not (can_be_asked now q) || is_no_later t q.asked_at
 
 behind_earlier : (now : ℕ) (s t : Option ℕ) (cs : List Candidate) → is_no_later s t ≡ true → list_all (is_behind now t) cs ≡ true → list_all (is_behind now s) cs ≡ true
@@ -95,7 +95,7 @@ first_or_none now (x ∷ cs) = by (can_be_asked now x) refl (first_or_none now c
         earlier true is = inr (zero, x, refl, can, and_both (is_behind now x.asked_at x) (list_all (is_behind now x.asked_at) cs) (behind x.asked_at true can (itself x.asked_at)) (behind_earlier now x.asked_at d.asked_at cs is all))
         earlier false is = inr (suc i, d, found, can_too, and_both (is_behind now d.asked_at x) (list_all (is_behind now d.asked_at) cs) (behind d.asked_at true can (one_of_both x.asked_at d.asked_at is)) all)
 
-exists_next : (now peer : ℕ) (a : AskingState) (c : Candidate) → a.up_to_date ≡ false → a.awaited ≡ None → slice_get a.peers peer ≡ Some c → can_be_asked now c ≡ true → (next : ℕ) × (is_next next now a ≡ true)
+pub exists_next : (now peer : ℕ) (a : AskingState) (c : Candidate) → a.up_to_date ≡ false → a.awaited ≡ None → slice_get a.peers peer ≡ Some c → can_be_asked now c ≡ true → (next : ℕ) × (is_next next now a ≡ true)
 exists_next now peer a c behind none found can = by (first_or_none now a.peers)
   where
     by : (none_can now a.peers ≡ true) ⊎ HasFirst now a.peers → (next : ℕ) × (is_next next now a ≡ true)
@@ -104,12 +104,12 @@ exists_next now peer a c behind none found can = by (first_or_none now a.peers)
 
 -- ---- a peer is changed
 
-it_changes : (f : Candidate → Candidate) (cs : List Candidate) (i : ℕ) (c : Candidate) → slice_get cs i ≡ Some c → slice_get (changed f i cs) i ≡ Some (f c)
+pub it_changes : (f : Candidate → Candidate) (cs : List Candidate) (i : ℕ) (c : Candidate) → slice_get cs i ≡ Some c → slice_get (changed f i cs) i ≡ Some (f c)
 it_changes f [] i c found = cc
 it_changes f (d ∷ cs) zero c found = cc
 it_changes f (d ∷ cs) (suc i) c found = it_changes f cs i c found
 
-others_stay : (f : Candidate → Candidate) (cs : List Candidate) (i j : ℕ) → (i ≡ j → ⊥) → slice_get (changed f i cs) j ≡ slice_get cs j
+pub others_stay : (f : Candidate → Candidate) (cs : List Candidate) (i j : ℕ) → (i ≡ j → ⊥) → slice_get (changed f i cs) j ≡ slice_get cs j
 others_stay f [] i j apart = refl
 others_stay f (d ∷ cs) zero zero apart = absurd (apart refl)
 others_stay f (d ∷ cs) zero (suc j) apart = refl
@@ -117,11 +117,11 @@ others_stay f (d ∷ cs) (suc i) zero apart = refl
 others_stay f (d ∷ cs) (suc i) (suc j) apart = others_stay f cs i j (λ same. apart (ap suc same))
 
 -- how many were asked no later than then
-abbrev ahead : Option ℕ → List Candidate → ℕ
+abbrev pub ahead : Option ℕ → List Candidate → ℕ
 ahead t [] = zero
 ahead t (c ∷ cs) = cond (is_no_later c.asked_at t) (suc (ahead t cs)) (ahead t cs)
 
-ahead_fits : (t : Option ℕ) (cs : List Candidate) → ahead t cs ≤ length cs
+pub ahead_fits : (t : Option ℕ) (cs : List Candidate) → ahead t cs ≤ length cs
 ahead_fits t [] = omega arith
 ahead_fits t (c ∷ cs) = by (is_no_later c.asked_at t) (ahead_fits t cs)
   where
@@ -129,7 +129,7 @@ ahead_fits t (c ∷ cs) = by (is_no_later c.asked_at t) (ahead_fits t cs)
     by true h = omega (arith, h)
     by false h = omega (arith, h)
 
-one_ahead : (t : Option ℕ) (cs : List Candidate) (i : ℕ) (c : Candidate) → slice_get cs i ≡ Some c → is_no_later c.asked_at t ≡ true → 1 ≤ ahead t cs
+pub one_ahead : (t : Option ℕ) (cs : List Candidate) (i : ℕ) (c : Candidate) → slice_get cs i ≡ Some c → is_no_later c.asked_at t ≡ true → 1 ≤ ahead t cs
 one_ahead t [] i c found is = cc
 one_ahead t (d ∷ cs) zero c found is = subst (λ (b : Bool). 1 ≤ cond b (suc (ahead t cs)) (ahead t cs)) (sym (subst (λ (x : Candidate). is_no_later x.asked_at t ≡ true) (sym (some_same found)) is)) (omega arith)
   where
@@ -141,7 +141,7 @@ one_ahead t (d ∷ cs) (suc i) c found is = by (is_no_later d.asked_at t) (one_a
     by true h = omega (arith, h)
     by false h = h
 
-fewer_ahead : (t : Option ℕ) (f : Candidate → Candidate) (cs : List Candidate) (i : ℕ) (c : Candidate) → slice_get cs i ≡ Some c → is_no_later c.asked_at t ≡ true → is_no_later (Candidate.asked_at (f c)) t ≡ false → ahead t cs ≡ suc (ahead t (changed f i cs))
+pub fewer_ahead : (t : Option ℕ) (f : Candidate → Candidate) (cs : List Candidate) (i : ℕ) (c : Candidate) → slice_get cs i ≡ Some c → is_no_later c.asked_at t ≡ true → is_no_later (Candidate.asked_at (f c)) t ≡ false → ahead t cs ≡ suc (ahead t (changed f i cs))
 fewer_ahead t f [] i c found before later = cc
 fewer_ahead t f (d ∷ cs) zero c found before later =
     ap (λ (b : Bool). cond b (suc (ahead t cs)) (ahead t cs)) (subst (λ (x : Candidate). is_no_later x.asked_at t ≡ true) (sym (some_same found)) before)
@@ -167,10 +167,10 @@ as_many_ahead t s (d ∷ cs) (suc i) = by (is_no_later d.asked_at t) (as_many_ah
 -- ---- a round
 
 -- a peer that is asked
-abbrev made_asked : ℕ → Candidate → Candidate
-made_asked now p = record { standing = standings.Asked; asked_at = Some now }
+abbrev pub made_asked : ℕ → Candidate → Candidate
+made_asked now p = record { standing = standings.Asked; asked_at = Some now; since = Some now }
 
-next_given : (q now : ℕ) (a : AskingState) → is_next q now a ≡ true → (a.up_to_date ≡ false) × (d : Candidate) × (slice_get a.peers q ≡ Some d) × (list_all (is_behind now d.asked_at) a.peers ≡ true)
+pub next_given : (q now : ℕ) (a : AskingState) → is_next q now a ≡ true → (a.up_to_date ≡ false) × (d : Candidate) × (slice_get a.peers q ≡ Some d) × (list_all (is_behind now d.asked_at) a.peers ≡ true)
 next_given q now a next =
     let both = and_true (not a.up_to_date) (is_none a.awaited && is_first now a.peers (slice_get a.peers q)) next in
     let given = first (slice_get a.peers q) (and_true (is_none a.awaited) (is_first now a.peers (slice_get a.peers q)) both.1).1 in
@@ -235,17 +235,30 @@ rested_later : (now : ℕ) (t : Option ℕ) → is_rested now t ≡ true → is_
 rested_later now None h = refl
 rested_later now (Some n) h = grind (arith, nat_tests)
 
-due_later : (s : Standing) (now : ℕ) (t : Option ℕ) → is_due s (is_rested now t) ≡ true → is_due s (is_rested (now + 5000) t) ≡ true
-due_later standings.Away now t h = cc
-due_later standings.Unasked now t h = refl
-due_later standings.Asked now t h = rested_later now t h
-due_later standings.Partial now t h = rested_later now t h
+overdue_later : (now : ℕ) (t : Option ℕ) → is_overdue now t ≡ true → is_overdue (now + 5000) t ≡ true
+overdue_later now None h = refl
+overdue_later now (Some n) h = grind (arith, nat_tests)
+
+one_of_two : (a b c d : Bool) → (a ≡ true → c ≡ true) → (b ≡ true → d ≡ true) → (a || b) ≡ true → (c || d) ≡ true
+one_of_two true b true d one other h = refl
+one_of_two true b false d one other h = absurd (false≢true (one refl))
+one_of_two false b true d one other h = refl
+one_of_two false b false d one other h = other h
+
+ready_later : (now : ℕ) (s t : Option ℕ) → (is_rested now s || is_overdue now t) ≡ true → (is_rested (now + 5000) s || is_overdue (now + 5000) t) ≡ true
+ready_later now s t h = one_of_two (is_rested now s) (is_overdue now t) (is_rested (now + 5000) s) (is_overdue (now + 5000) t) (rested_later now s) (overdue_later now t) h
+
+due_later : (s : Standing) (now : ℕ) (since t : Option ℕ) → is_due s (is_rested now since || is_overdue now t) ≡ true → is_due s (is_rested (now + 5000) since || is_overdue (now + 5000) t) ≡ true
+due_later standings.Away now since t h = cc
+due_later standings.Unasked now since t h = refl
+due_later standings.Asked now since t h = ready_later now since t h
+due_later standings.Partial now since t h = ready_later now since t h
 
 before_later : (now : ℕ) (t : Option ℕ) → was_before now t ≡ true → was_before (now + 5000) t ≡ true
 before_later now None h = refl
 before_later now (Some n) h = grind (arith, nat_tests)
 
-is_later : (now : ℕ) (t : Option ℕ) → was_before now t ≡ true → is_no_later (Some now) t ≡ false
+pub is_later : (now : ℕ) (t : Option ℕ) → was_before now t ≡ true → is_no_later (Some now) t ≡ false
 is_later now None h = refl
 is_later now (Some n) h = grind (arith, nat_tests)
 
@@ -254,10 +267,10 @@ is_later now (Some n) h = grind (arith, nat_tests)
 -- a peer that isn't asked in a round can still be asked after it
 can_still : (answers : ℕ → Answer) (peer q now : ℕ) (a : AskingState) (c : Candidate) → (q ≡ peer → ⊥) → slice_get a.peers peer ≡ Some c → can_be_asked now c ≡ true → was_before now c.asked_at ≡ true → (slice_get (answered (answers q) q (now + 5000) (asked q now a)).peers peer ≡ Some c) × (can_be_asked (now + 5000) c ≡ true) × (was_before (now + 5000) c.asked_at ≡ true)
 can_still answers peer q now a c apart found can before =
-    (answered_get (answers q) q (now + 5000) peer (asked q now a) apart ∙ others_stay (made_asked now) a.peers q peer apart ∙ found, due_later c.standing now c.asked_at can, before_later now c.asked_at before)
+    (answered_get (answers q) q (now + 5000) peer (asked q now a) apart ∙ others_stay (made_asked now) a.peers q peer apart ∙ found, due_later c.standing now c.since c.asked_at can, before_later now c.asked_at before)
 
 -- a peer that is next was asked no later than one that can be asked
-no_later_than : (now peer : ℕ) (cs : List Candidate) (c d : Candidate) → list_all (is_behind now d.asked_at) cs ≡ true → slice_get cs peer ≡ Some c → can_be_asked now c ≡ true → is_no_later d.asked_at c.asked_at ≡ true
+pub no_later_than : (now peer : ℕ) (cs : List Candidate) (c d : Candidate) → list_all (is_behind now d.asked_at) cs ≡ true → slice_get cs peer ≡ Some c → can_be_asked now c ≡ true → is_no_later d.asked_at c.asked_at ≡ true
 no_later_than now peer cs c d all found can = by (can_be_asked now c) can (passes (is_behind now d.asked_at) cs peer c all found)
   where
     by : (b : Bool) → b ≡ true → (not b || is_no_later d.asked_at c.asked_at) ≡ true → is_no_later d.asked_at c.asked_at ≡ true
@@ -320,8 +333,12 @@ asked_due standings.Away rested owes h = cc
 asked_due standings.Unasked rested owes h = cc
 asked_due standings.Partial rested owes h = cc
 
-not_due : (c : Candidate) (now later : ℕ) → is_asked c.standing ≡ true → later < now + 60000 → can_be_asked later (brought now c) ≡ false
-not_due c now later owes soon = rw owes (asked_due c.standing (is_rested later (Some now)) owes (not_rested now later soon))
+neither : (a b : Bool) → a ≡ false → b ≡ false → (a || b) ≡ false
+neither true b one other = cc
+neither false b one other = other
+
+not_due : (c : Candidate) (now later : ℕ) → is_asked c.standing ≡ true → is_overdue later c.asked_at ≡ false → later < now + 60000 → can_be_asked later (brought now c) ≡ false
+not_due c now later owes due soon = rw owes (asked_due c.standing (is_rested later (Some now) || is_overdue later c.asked_at) owes (neither (is_rested later (Some now)) (is_overdue later c.asked_at) (not_rested now later soon) due))
 
 nobody_first : (now : ℕ) (peers : List Candidate) (o : Option Candidate) (p : Candidate) → o ≡ Some p → can_be_asked now p ≡ false → is_first now peers o ≡ false
 nobody_first now peers None p is away = cc
@@ -339,13 +356,8 @@ none_is_next true none first h = refl
 none_is_next false true first h = h
 none_is_next false false first h = refl
 
-owing : (o : Option Candidate) → owes o ≡ true → (p : Candidate) × (o ≡ Some p) × (is_asked p.standing ≡ true)
-owing None h = cc
-owing (Some p) h = (p, refl, h)
-
-pub not_asked_meanwhile : (a : AskingState) (peer now later : ℕ) → owes (slice_get a.peers peer) ≡ true → later < now + 60000 → is_next peer later (heard peer now a) ≡ false
-not_asked_meanwhile a peer now later asked soon =
-    let it = owing (slice_get a.peers peer) asked in
+pub not_asked_meanwhile : (a : AskingState) (c : Candidate) (peer now later : ℕ) → slice_get a.peers peer ≡ Some c → is_asked c.standing ≡ true → is_overdue later c.asked_at ≡ false → later < now + 60000 → is_next peer later (heard peer now a) ≡ false
+not_asked_meanwhile a c peer now later found asked due soon =
     let peers = changed (brought now) peer a.peers in
     none_is_next a.up_to_date (is_none (heard peer now a).awaited) (is_first later peers (slice_get peers peer))
-    (nobody_first later peers (slice_get peers peer) (brought now it.0) (it_changes (brought now) a.peers peer it.0 it.1) (not_due it.0 now later it.2 soon))
+    (nobody_first later peers (slice_get peers peer) (brought now c) (it_changes (brought now) a.peers peer c found) (not_due c now later asked due soon))

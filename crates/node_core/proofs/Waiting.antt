@@ -31,11 +31,11 @@ heard_peer w peer now = by (w.peer == peer)
     by true = refl
     by false = refl
 
-second_false : (a b : Bool) → (a || b) ≡ false → b ≡ false
+pub second_false : (a b : Bool) → (a || b) ≡ false → b ≡ false
 second_false true b h = cc
 second_false false b h = h
 
-first_false : (a b : Bool) → (a || b) ≡ false → a ≡ false
+pub first_false : (a b : Bool) → (a || b) ≡ false → a ≡ false
 first_false true b h = cc
 first_false false b h = refl
 
@@ -64,11 +64,11 @@ waits_on a w (Passes now) is may = (w, still, refl)
 -- ---- what stays of who is waited for
 
 -- such is the peer that is waited for, if there is one
-abbrev Are : (Awaited → Type 0) → Option Awaited → Type 0
+abbrev pub Are : (Awaited → Type 0) → Option Awaited → Type 0
 Are P o = (w : Awaited) → o ≡ Some w → P w
 
 -- what happens leaves whoever is waited for such
-abbrev Leaves : (Awaited → Type 0) → Happening → Type 0
+abbrev pub Leaves : (Awaited → Type 0) → Happening → Type 0
 Leaves P (Begins other) = Unit {0}
 Leaves P (Ends other) = Unit {0}
 Leaves P (Asks other now) = P (record { peer = other; asked_at = now; since = now })
@@ -104,7 +104,7 @@ passes_are : (P : Awaited → Type 0) (now : ℕ) (b : Bool) (a : AskingState) �
 passes_are P now true a are w is = cc
 passes_are P now false a are w is = still_are P now a.awaited are w is
 
-step_are : (P : Awaited → Type 0) (a : AskingState) (h : Happening) → Leaves P h → Are P a.awaited → Are P (after h a).awaited
+pub step_are : (P : Awaited → Type 0) (a : AskingState) (h : Happening) → Leaves P h → Are P a.awaited → Are P (after h a).awaited
 step_are P a (Begins other) leaves are = unless_are P other a.awaited are
 step_are P a (Ends other) leaves are = unless_are P other a.awaited are
 step_are P a (Asks other now) leaves are = by (is_next other now a)
@@ -140,7 +140,7 @@ lapsed_fresh now (Some v) w is = by (is_over now v) refl is
     by true over is = cc
     by false over is = (is, subst (λ (x : Awaited). is_over now x ≡ false) (some_same v w is) over)
 
-passes_fresh : (now : ℕ) (b : Bool) (a : AskingState) (w : Awaited) → AskingState.awaited (cond b (record (lapsed now a) { up_to_date = true; awaited = None }) (lapsed now a)) ≡ Some w → (a.awaited ≡ Some w) × (is_over now w ≡ false)
+pub passes_fresh : (now : ℕ) (b : Bool) (a : AskingState) (w : Awaited) → AskingState.awaited (cond b (record (lapsed now a) { up_to_date = true; awaited = None }) (lapsed now a)) ≡ Some w → (a.awaited ≡ Some w) × (is_over now w ≡ false)
 passes_fresh now true a w is = cc
 passes_fresh now false a w is = lapsed_fresh now a.awaited w is
 
@@ -156,7 +156,7 @@ IsSince peer since w = w.peer ≡ peer → w.since ≡ since
 abbrev WasAsked : ℕ → ℕ → Awaited → Type 0
 WasAsked peer when w = w.peer ≡ peer → w.asked_at ≡ when
 
-another : (other peer : ℕ) → (other == peer) ≡ false → other ≡ peer → ⊥
+pub another : (other peer : ℕ) → (other == peer) ≡ false → other ≡ peer → ⊥
 another other peer apart same = false≢true (sym apart ∙ eq-eqb other peer same)
 
 leaves_since : (peer since : ℕ) (h : Happening) → is_from peer h ≡ false → Leaves (IsSince peer since) h

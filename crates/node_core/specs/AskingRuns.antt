@@ -1,9 +1,10 @@
 -- What happens to a node that asks its peers, in any order, and what comes of asking one after another.
-use Rattle.std.specs.Prelude.{◌≡◌, ℕ, ◌+◌, Bool, true, false, ◌==◌, ◌||◌, nat_lt, List, [], ◌∷◌, Option, None, Some, slice_get}
+use Rattle.std.specs.Prelude.{◌≡◌, ◌≤◌, ℕ, zero, suc, ◌+◌, Bool, true, false, not, ◌==◌, ◌&&◌, ◌||◌, nat_lt, nat_le, List, [], ◌∷◌, ◌++◌, Option, None, Some, length, slice_get, if◌then◌else◌}
+use Rattle.std.specs.List.{list_all}
 use Rattle.node_core.specs.declared.asking.Standing.TheVariants as standings
 use Rattle.node_core.specs.declared.asking.Candidate.{Candidate}
 use Rattle.node_core.specs.declared.asking.Awaited.{Awaited}
-use Rattle.node_core.specs.CatchingUp.{AskingState, asked, asked_if_next, can_be_asked, finished, heard, is_next, is_over, is_settled, lapsed, partly_finished, settled, stood}
+use Rattle.node_core.specs.CatchingUp.{AskingState, asked, asked_if_next, can_be_asked, finished, heard, is_away, is_next, is_over, is_settled, lapsed, partly_finished, settled, stood}
 
 -- What happens: a session with a peer begins or ends; a peer is asked at a moment if it is next; it brings a row at a moment; it ends
 -- its resync as finished, or as partial; the time is noted.
@@ -61,6 +62,41 @@ may_end a w (Finishes peer) = true
 may_end a w (FinishesPartly peer) = w.peer == peer
 may_end a w (Passes now) = is_over now w || is_settled now a
 
+-- the session with the peer ends
+abbrev pub is_end_of : ℕ → Happening → Bool
+is_end_of peer (Begins other) = false
+is_end_of peer (Ends other) = other == peer
+is_end_of peer (Asks other now) = false
+is_end_of peer (Brings other now) = false
+is_end_of peer (Finishes other) = false
+is_end_of peer (FinishesPartly other) = false
+is_end_of peer (Passes now) = false
+
+-- nobody is asked before this moment
+abbrev pub asks_none_before : ℕ → Happening → Bool
+asks_none_before now (Begins peer) = true
+asks_none_before now (Ends peer) = true
+asks_none_before now (Asks peer when) = nat_le now when
+asks_none_before now (Brings peer when) = true
+asks_none_before now (Finishes peer) = true
+asks_none_before now (FinishesPartly peer) = true
+asks_none_before now (Passes when) = true
+
+-- the peer that is asked by it, if one is
+abbrev pub asked_by : Happening → AskingState → List ℕ
+asked_by (Begins peer) a = []
+asked_by (Ends peer) a = []
+asked_by (Asks peer now) a = if is_next peer now a then peer ∷ [] else []
+asked_by (Brings peer now) a = []
+asked_by (Finishes peer) a = []
+asked_by (FinishesPartly peer) a = []
+asked_by (Passes now) a = []
+
+-- the peers that are asked, one after another
+abbrev pub asked_by_all : List Happening → AskingState → List ℕ
+asked_by_all [] a = []
+asked_by_all (h ∷ hs) a = asked_by h a ++ asked_by_all hs (after h a)
+
 -- somebody waits for the peer
 abbrev pub IsAwaited : ℕ → AskingState → Type 0
 IsAwaited peer a = (w : Awaited) × (a.awaited ≡ Some w) × (w.peer ≡ peer)
@@ -92,10 +128,53 @@ was_before now (Some asked) = nat_lt asked now
 abbrev pub CanBeAsked : ℕ → ℕ → AskingState → Type 0
 CanBeAsked peer now a = (c : Candidate) × (slice_get a.peers peer ≡ Some c) × (can_be_asked now c ≡ true) × (was_before now c.asked_at ≡ true)
 
--- the peer has a session, and nothing that the node remembers of it or of who is waited for is of a later moment
+-- the peer has a session, and nothing that the node remembers of it is of a later moment
 abbrev pub HasSession : ℕ → ℕ → AskingState → Type 0
-HasSession peer now a = (c : Candidate) × (slice_get a.peers peer ≡ Some c) × (c.standing ≡ standings.Away → ⊥) × (was_before (now + 1) c.asked_at ≡ true)
+HasSession peer now a = (c : Candidate) × (slice_get a.peers peer ≡ Some c) × (c.standing ≡ standings.Away → ⊥) × (was_before (now + 1) c.asked_at ≡ true) × (was_before (now + 1) c.since ≡ true)
+
+-- the peer has a session, and was last asked then, if it ever was
+abbrev pub WasLastAsked : ℕ → Option ℕ → AskingState → Type 0
+WasLastAsked peer asked a = (c : Candidate) × (slice_get a.peers peer ≡ Some c) × (is_away c.standing ≡ false) × (c.asked_at ≡ asked)
 
 abbrev pub is_heard_before : ℕ → Option Awaited → Bool
 is_heard_before now None = true
 is_heard_before now (Some w) = nat_lt w.since now
+
+-- ---- seconds
+
+-- nobody is asked behind this moment
+abbrev pub asks_none_after : ℕ → Happening → Bool
+asks_none_after now (Begins peer) = true
+asks_none_after now (Ends peer) = true
+asks_none_after now (Asks peer when) = nat_le when now
+asks_none_after now (Brings peer when) = true
+asks_none_after now (Finishes peer) = true
+asks_none_after now (FinishesPartly peer) = true
+asks_none_after now (Passes when) = true
+
+-- it can happen in the second from this moment on while the session with the peer stands
+abbrev pub is_timely : ℕ → ℕ → Happening → Bool
+is_timely peer now h = not (is_end_of peer h) && (asks_none_before now h && asks_none_after (now + 1000) h)
+
+abbrev pub are_timely : ℕ → ℕ → List (List Happening) → Bool
+are_timely peer now [] = true
+are_timely peer now (hs ∷ more) = list_all (is_timely peer now) hs && are_timely peer (now + 1000) more
+
+-- the node looks: the time is noted, and each of so many peers is asked if it is next
+abbrev pub looked : ℕ → ℕ → AskingState → AskingState
+looked now zero a = after (Passes now) a
+looked now (suc peer) a = after (Asks peer now) (looked now peer a)
+
+-- One second after another from this moment on: whatever happens in it, and at its end the node looks.
+abbrev pub after_seconds : ℕ → List (List Happening) → AskingState → AskingState
+after_seconds now [] a = a
+after_seconds now (hs ∷ more) a = after_seconds (now + 1000) more (looked (now + 1000) (length a.peers) (after_all hs a))
+
+-- the peer was asked at this moment or later
+abbrev pub WasAskedSince : ℕ → ℕ → AskingState → Type 0
+WasAskedSince peer now a = (c : Candidate) × (when : ℕ) × (slice_get a.peers peer ≡ Some c) × (c.asked_at ≡ Some when) × (now ≤ when)
+
+-- whoever is waited for was asked no later than now
+abbrev pub is_asked_before : ℕ → Option Awaited → Bool
+is_asked_before now None = true
+is_asked_before now (Some w) = nat_le w.asked_at now

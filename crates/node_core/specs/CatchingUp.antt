@@ -19,7 +19,12 @@ pub record AskingState : Type 0 where
 -- a minute has passed since the peer was asked, or brought a row after that, if it ever was
 abbrev pub is_rested : ℕ → Option ℕ → Bool
 is_rested now None = true
-is_rested now (Some asked) = nat_le 60000 (now - asked)
+is_rested now (Some since) = nat_le 60000 (now - since)
+
+-- eleven minutes have passed since the peer was asked, if it ever was: those that it is waited for at most, and one more
+abbrev pub is_overdue : ℕ → Option ℕ → Bool
+is_overdue now None = true
+is_overdue now (Some asked) = nat_le 660000 (now - asked)
 
 abbrev pub is_due : Standing → Bool → Bool
 is_due standings.Away rested = false
@@ -27,9 +32,9 @@ is_due standings.Unasked rested = true
 is_due standings.Asked rested = rested
 is_due standings.Partial rested = rested
 
--- the peer has a session, and wasn't asked on it, or a minute ago
+-- the peer has a session, and wasn't asked on it, or has been quiet for a minute, or was asked eleven minutes ago
 abbrev pub can_be_asked : ℕ → Candidate → Bool
-can_be_asked now p = is_due p.standing (is_rested now p.asked_at)
+can_be_asked now p = is_due p.standing (is_rested now p.since || is_overdue now p.asked_at)
 
 -- one peer was never asked, or the other was, and no earlier
 abbrev pub is_no_later : Option ℕ → Option ℕ → Bool
@@ -58,7 +63,7 @@ changed f (suc peer) (p ∷ ps) = p ∷ changed f peer ps
 abbrev pub asked : ℕ → ℕ → AskingState → AskingState
 asked peer now a = record a {
   awaited = Some (record { peer = peer; asked_at = now; since = now });
-  peers = changed (λ p. record { standing = standings.Asked; asked_at = Some now }) peer a.peers;
+  peers = changed (λ p. record { standing = standings.Asked; asked_at = Some now; since = Some now }) peer a.peers;
 }
 
 abbrev pub asked_if_next : ℕ → ℕ → AskingState → AskingState
@@ -100,9 +105,9 @@ partly_finished peer a = if owes (slice_get a.peers peer) then stood standings.P
 abbrev pub heard_from : ℕ → ℕ → Awaited → Awaited
 heard_from peer now w = if w.peer == peer then record w { since = now } else w
 
--- one that owes an answer isn't asked again for a minute from then on
+-- one that owes an answer isn't asked again for a minute from then on, unless it was asked eleven minutes ago
 abbrev pub brought : ℕ → Candidate → Candidate
-brought now p = if is_asked p.standing then record p { asked_at = Some now } else p
+brought now p = if is_asked p.standing then record p { since = Some now } else p
 
 abbrev pub heard : ℕ → ℕ → AskingState → AskingState
 heard peer now a = record a { awaited = option_map (heard_from peer now) a.awaited; peers = changed (brought now) peer a.peers }
@@ -162,9 +167,3 @@ is_settled now a = not a.up_to_date && ((nat_le 5000 now || list_all (λ p. not 
 
 abbrev pub settled : ℕ → AskingState → AskingState
 settled now a = if is_settled now a then record a { up_to_date = true; awaited = None } else a
-
--- ---- the beginning
-
--- the peers of a node that begins, of which none has a session
-abbrev pub none_come : List Candidate → Bool
-none_come peers = list_all (λ p. is_away p.standing && is_none p.asked_at) peers

@@ -1,9 +1,11 @@
+pub mod Accepting
 pub mod AskingRuns
 pub mod Bringing
 pub mod CatchingUp
 pub mod Defining
 pub mod Differences
 pub mod Doors
+pub mod KeptPages
 pub mod Levels
 pub mod Needs
 pub mod NumberTimes

@@ -21,3 +21,9 @@ abbrev pub rest_after : Option ℕ → ℕ → Bool → ℕ → ℕ
 rest_after since rest false now = rest
 rest_after None rest true now = rest
 rest_after (Some since) rest true now = if nat_lt (now - since) 5000 then rest else min (now + 60000) (2 ^ 64 - 1)
+
+-- whether it was given up since a table waits
+abbrev pub given_up_after : Option ℕ → Bool → Bool → ℕ → Bool
+given_up_after since given_up false now = false
+given_up_after None given_up true now = given_up
+given_up_after (Some since) given_up true now = if nat_lt (now - since) 5000 then given_up else true

@@ -3,7 +3,7 @@
 ghost use Rattle.std.specs.Prelude.{◌≡◌, ◌==◌, ◌||◌, not, IfOk, None, Some, replicate, slice_get};
 ghost use Rattle.std.specs.List.{list_all, list_any};
 ghost use Rattle.node_core.specs.declared.asking.Standing.TheVariants as standings;
-ghost use Rattle.node_core.specs.CatchingUp.{are_partial, asked_if_next, brought, can_be_asked, changed, finished, heard, is_asked, is_away, is_done_by, is_first, is_mute, is_next, is_no_later, is_over, is_partial, is_rested, is_settled, lapsed, owes, partly_finished, settled, stood, unanswered, wait_end, waited_anew};
+ghost use Rattle.node_core.specs.CatchingUp.{are_partial, asked_if_next, brought, can_be_asked, changed, finished, heard, is_asked, is_away, is_done_by, is_first, is_mute, is_next, is_no_later, is_over, is_overdue, is_partial, is_rested, is_settled, lapsed, owes, partly_finished, settled, stood, unanswered, wait_end, waited_anew};
 
 use std::alloc::{AllocError, Global};
 use std::marker::Model;
@@ -19,6 +19,9 @@ pub const ALONE: u64 = 5_000;
 
 /// From when a peer is asked, or last brings a row, to when it can be asked again on the same session, in milliseconds.
 const PAUSE: u64 = 60_000;
+
+/// From when a peer is asked to when it can be asked again on the same session, whatever it brings, in milliseconds.
+const LATEST: u64 = LONGEST + PAUSE;
 
 /// How a peer stands to being asked.
 #[derive(Clone, Copy, Debug, PartialEq, Eq)]
@@ -60,8 +63,10 @@ impl Standing {
 #[derive(Clone, Copy, Debug)]
 pub struct Candidate {
     standing: Standing,
-    /// When it was last asked, or brought a row and owed an answer, in milliseconds since the node began.
+    /// When it was last asked, in milliseconds since the node began.
     asked_at: Option<u64>,
+    /// When it was last asked, or brought a row and owed an answer, in milliseconds since the node began.
+    since: Option<u64>,
 }
 
 /// The peer that is waited for.
@@ -88,8 +93,8 @@ pub enum WaitEnd {
 ///
 /// It asks one peer at a time, and of those that can be asked the one that was asked longest ago. It waits for a peer until that
 /// ends its resync, loses its session, or has brought no row for `PATIENCE`, and for `LONGEST` in all; an end that comes later counts
-/// all the same. A peer that didn't answer, or only in part, can be asked again a minute after it was asked or last brought a row, or on
-/// its next session. The node is up to date once a peer ends its resync as finished, or all that have a session have ended it as partial.
+/// all the same. A peer that didn't answer, or only in part, can be asked again a minute after it was asked or last brought a row, at the
+/// latest `LATEST` after it was asked, or on its next session. The node is up to date once a peer ends its resync as finished, or all that have a session have ended it as partial.
 #[derive(Drop)]
 pub struct Asking {
     up_to_date: bool,
@@ -106,12 +111,22 @@ impl Model for Asking {
     ghost view = { λ a. record { up_to_date = a.up_to_date; awaited = a.awaited; peers = a.peers.items } };
 }
 
-/// Returns whether a peer that was last asked then can be asked again.
-fn is_rested(asked_at: Option<u64>, now: u64) -> bool
-    ensures { result ≡ is_rested now asked_at }
+/// Returns whether `PAUSE` has passed since a moment, if there is one.
+fn is_rested(since: Option<u64>, now: u64) -> bool
+    ensures { result ≡ is_rested now since }
+{
+    match since {
+        Some(since) => now.saturating_sub(since) >= PAUSE,
+        None => true,
+    }
+}
+
+/// Returns whether a peer that was last asked then was so `LATEST` ago.
+fn is_overdue(asked_at: Option<u64>, now: u64) -> bool
+    ensures { result ≡ is_overdue now asked_at }
 {
     match asked_at {
-        Some(asked) => now.saturating_sub(asked) >= PAUSE,
+        Some(asked) => now.saturating_sub(asked) >= LATEST,
         None => true,
     }
 }
@@ -135,7 +150,9 @@ impl Candidate {
         match self.standing {
             Standing::Away => false,
             Standing::Unasked => true,
-            Standing::Asked | Standing::Partial => is_rested(self.asked_at, now),
+            Standing::Asked | Standing::Partial => {
+                is_rested(self.since, now) || is_overdue(self.asked_at, now)
+            }
         }
     }
 
@@ -147,7 +164,7 @@ impl Candidate {
             return self;
         }
         Candidate {
-            asked_at: Some(now),
+            since: Some(now),
             ..self
         }
     }
@@ -197,12 +214,13 @@ fn set_standing(peers: &mut [Candidate], peer: usize, standing: Standing)
 /// Notes that the peer with this index is asked.
 #[tactic(auto, using(crate::proofs::Changed::constant_changed, crate::proofs::Changed::past_changed))]
 fn set_asked(peers: &mut [Candidate], peer: usize, now: u64)
-    ensures { peers.new ≡ changed (λ p. record { standing = standings.Asked; asked_at = Some now }) peer peers.old }
+    ensures { peers.new ≡ changed (λ p. record { standing = standings.Asked; asked_at = Some now; since = Some now }) peer peers.old }
 {
     if peer < peers.len() {
         peers[peer] = Candidate {
             standing: Standing::Asked,
             asked_at: Some(now),
+            since: Some(now),
         };
     }
 }
@@ -291,11 +309,12 @@ impl Asking {
     pub fn new(alloc: Global, peers: usize) -> Result<Asking, AllocError>
         ensures up_to_date { IfOk result (λ asking. asking.up_to_date ≡ (peers == 0)) }
         ensures awaited { IfOk result (λ asking. asking.awaited ≡ None) }
-        ensures peers { IfOk result (λ asking. asking.peers ≡ replicate peers (record { standing = standings.Away; asked_at = None })) }
+        ensures peers { IfOk result (λ asking. asking.peers ≡ replicate peers (record { standing = standings.Away; asked_at = None; since = None })) }
     {
         let away = Candidate {
             standing: Standing::Away,
             asked_at: None,
+            since: None,
         };
         Ok(Asking {
             up_to_date: peers == 0,
@@ -361,7 +380,8 @@ impl Asking {
         true
     }
 
-    /// Notes that the peer with this index has brought a row. If it owes an answer, it isn't asked again for a minute from then on.
+    /// Notes that the peer with this index has brought a row. If it owes an answer, it isn't asked again for a minute from then on, unless
+    /// it was asked `LATEST` ago.
     pub fn hear(&mut self, peer: usize, now: u64)
         ensures { self.new ≡ heard peer now self.old }
     {

@@ -1,10 +1,11 @@
 //! Laws of a node that asks its peers for all rows, which hold whatever the program does.
 
-ghost use Rattle.std.specs.Prelude.{◌≡◌, ◌≤◌, ◌<◌, ◌+◌, ◌*◌, ◌⊎◌, ℕ, false, true, List, None, Some, length, slice_get};
-ghost use Rattle.std.specs.List.{list_any};
+ghost use Rattle.std.specs.Prelude.{◌≡◌, ◌==◌, ◌≤◌, ◌<◌, ◌+◌, ◌*◌, ◌⊎◌, ℕ, false, true, List, Option, None, Some, length, slice_get};
+ghost use Rattle.std.specs.List.{list_all, list_any};
 ghost use Rattle.node_core.specs.declared.asking.Awaited.{Awaited};
-ghost use Rattle.node_core.specs.CatchingUp.{AskingState, heard, is_next, lapsed, owes};
-ghost use Rattle.node_core.specs.AskingRuns.{Answer, CanBeAsked, HasSession, Happening, Asks, Finished, IsAwaited, Passes, Rounds, after, after_all, is_asking, is_from, is_heard_before, may_end};
+ghost use Rattle.node_core.specs.declared.asking.Candidate.{Candidate};
+ghost use Rattle.node_core.specs.CatchingUp.{AskingState, heard, is_asked, is_next, is_overdue, lapsed, owes};
+ghost use Rattle.node_core.specs.AskingRuns.{Answer, CanBeAsked, HasSession, Happening, Asks, Finished, Finishes, IsAwaited, Passes, Rounds, WasAskedSince, WasLastAsked, after, after_all, after_seconds, are_timely, asked_by_all, asks_none_before, is_asked_before, is_asking, is_end_of, is_from, is_heard_before, may_end, was_before};
 
 /// No two peers are asked at once. While a peer is waited for, no peer is next to be asked; and a peer that is waited for is so
 /// until it ends its resync as partial, loses its session or begins another, is mute for 5 s, or was asked ten minutes ago, unless
@@ -21,19 +22,41 @@ pub fn a_mute_peer_holds_nobody_up()
         IsAwaited peer (after (Passes now) (after_all hs (after (Asks peer asked) a))) → ⊥ }
 {}
 
-/// No peer is waited for for more than ten minutes: if it was asked, then whatever it brings, and whatever else happens, it isn't
+/// No peer is waited for longer than ten minutes: if it was asked, then whatever it brings, and whatever else happens, it isn't
 /// waited for once the time is noted ten minutes later, unless it is asked again meanwhile.
 pub fn every_wait_ends()
     ensures { (a : AskingState) (peer asked now : ℕ) (hs : List Happening) → is_next peer asked a ≡ true → list_any (is_asking peer) hs ≡ false → asked + 600000 ≤ now →
         IsAwaited peer (after (Passes now) (after_all hs (after (Asks peer asked) a))) → ⊥ }
 {}
 
-/// A peer that is waited for and brings a row is waited for for 5 s from then on, within the ten minutes from when it was asked. One
-/// that owes an answer and brings a row isn't asked for a minute from then on, whoever else is and whenever it was asked, so what it
-/// teaches doesn't begin anew.
+/// A peer that is waited for and brings a row has 5 s from then on, within the ten minutes from when it was asked. One that owes an
+/// answer and brings a row isn't asked for a minute from then on, whoever else is, so what it teaches doesn't begin anew, unless it was
+/// asked eleven minutes ago.
 pub fn whoever_brings_rows_goes_on()
     ensures waits { (a : AskingState) (w : Awaited) (now later : ℕ) → a.awaited ≡ Some w → later < now + 5000 → later < w.asked_at + 600000 → IsAwaited w.peer (lapsed later (heard w.peer now a)) }
-    ensures asks { (a : AskingState) (peer now later : ℕ) → owes (slice_get a.peers peer) ≡ true → later < now + 60000 → is_next peer later (heard peer now a) ≡ false }
+    ensures asks { (a : AskingState) (c : Candidate) (peer now later : ℕ) → slice_get a.peers peer ≡ Some c → is_asked c.standing ≡ true → is_overdue later c.asked_at ≡ false →
+        later < now + 60000 → is_next peer later (heard peer now a) ≡ false }
+{}
+
+/// A peer that has a session is asked again, whatever it brings and whatever else happens. It can be asked at the latest eleven minutes
+/// after it was, unless it was asked again meanwhile; and from then on each other peer is asked once at most before it is.
+pub fn each_is_asked_in_turn()
+    ensures again { (a : AskingState) (peer asked now : ℕ) (hs : List Happening) → is_next peer asked a ≡ true → list_any (is_end_of peer) hs ≡ false →
+        list_any (λ other. other == peer) (asked_by_all hs (after (Asks peer asked) a)) ≡ false → asked + 660000 ≤ now →
+        CanBeAsked peer now (after_all hs (after (Asks peer asked) a)) }
+    ensures turns { (a : AskingState) (peer now : ℕ) (asked : Option ℕ) (hs : List Happening) → WasLastAsked peer asked a → is_overdue now asked ≡ true →
+        list_all (asks_none_before now) hs ≡ true → list_any (is_end_of peer) hs ≡ false → list_any (λ other. other == peer) (asked_by_all hs a) ≡ false →
+        length (asked_by_all hs a) < length a.peers }
+{}
+
+/// Whatever happens, a node that looks each second, at the time and whether a peer is next, comes to be up to date or asks a peer whose
+/// session stands, within eleven minutes and 601 s for each peer that it has. If a peer that was asked ends its resync as finished, the
+/// node is up to date.
+pub fn whoever_stays_is_asked()
+    ensures asked { (a : AskingState) (peer now : ℕ) (asked : Option ℕ) (seconds : List (List Happening)) → WasLastAsked peer asked a → was_before now asked ≡ true →
+        is_asked_before now a.awaited ≡ true → are_timely peer now seconds ≡ true → 660 + 601 * length a.peers ≤ length seconds →
+        ((after_seconds now seconds a).up_to_date ≡ true) ⊎ WasAskedSince peer now (after_seconds now seconds a) }
+    ensures finishes { (a : AskingState) (peer : ℕ) → owes (slice_get a.peers peer) ≡ true → (after (Finishes peer) a).up_to_date ≡ true }
 {}
 
 /// A node that has a peer that ends its resync as finished if it is asked comes to be up to date. From any state, once a minute has

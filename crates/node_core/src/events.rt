@@ -1,5 +1,6 @@
 //! What happens to a node, as its log says it.
 
+use crate::accepting::Want;
 use crate::asking::WaitEnd;
 use crate::differences::Difference;
 use crate::processes::Process;
@@ -79,6 +80,20 @@ pub enum Event<'a> {
     Renewed {
         /// The table's name.
         table: &'a [u8],
+    },
+    /// A table can't get new numbers.
+    NotRenewed {
+        /// The table's name.
+        table: &'a [u8],
+    },
+    /// Connections can't be accepted at a port.
+    NotAccepted {
+        /// The port.
+        port: Port,
+        /// What the process lacks.
+        want: Want,
+        /// Why, in the system's words.
+        reason: &'a [u8],
     },
     /// Lines of the log were left out.
     Omitted {

@@ -3,12 +3,8 @@
 /// Why the node has no session with a peer, as its last attempt showed.
 #[derive(Clone, Copy, Debug, PartialEq, Eq)]
 pub enum LastError {
-    /// The peer's address couldn't be connected to.
+    /// The node couldn't reach the peer: its address couldn't be connected to, or the connection came to no session.
     Unreachable,
-    /// The peer's address took the connection, and no answer came that begins a session.
-    NoAnswer,
-    /// The node lacked memory or a thread for a session.
-    Lacking,
     /// The peer refused the node's hello with this status.
     Refused(u16),
     /// The node refused the peer's hello with this status.

@@ -1,10 +1,7 @@
 //! What became of the attempts to have a session with a peer.
 
-ghost use Rattle.std.specs.Prelude.{◌≡◌, ◌≢◌, ◌↔◌, IsTrue, None, Some, not, true};
-ghost use Rattle.node_core.specs.Reaching.{error_after, error_of, failed, refused, untried};
-ghost use Rattle.node_core.specs.declared.last_errors.LastError.TheVariants as errors;
-
-use crate::last_errors::LastError;
+ghost use Rattle.std.specs.Prelude.{◌≡◌, ◌≢◌, ◌↔◌, IsTrue, Some, not, true};
+ghost use Rattle.node_core.specs.Reaching.{untried};
 
 /// Why a connection came to no session.
 #[derive(Clone, Copy, Debug, PartialEq, Eq)]
@@ -34,35 +31,6 @@ pub enum Failure {
     NoSession(NoSession),
 }
 
-impl NoSession {
-    /// Returns why there is no session after a connection that came to none for this reason.
-    fn error(self) -> LastError
-        ensures { result ≡ error_of self }
-    {
-        match self {
-            NoSession::Lacking => LastError::Lacking,
-            NoSession::Closed
-            | NoSession::Silent
-            | NoSession::Strange
-            | NoSession::Device
-            | NoSession::AtOnce => LastError::NoAnswer,
-        }
-    }
-}
-
-impl Failure {
-    /// Returns why there is no session after an attempt that failed so.
-    fn error(self) -> LastError
-        ensures { result ≡ error_after self }
-    {
-        match self {
-            Failure::Unreachable(_) => LastError::Unreachable,
-            Failure::Refused(status) => LastError::Refused(status),
-            Failure::NoSession(cause) => cause.error(),
-        }
-    }
-}
-
 /// What became of the attempts to have a session with a peer since the last one began, as far as the log says it: each once, until it
 /// changes.
 #[derive(Clone, Copy, Debug)]
@@ -73,8 +41,6 @@ pub struct Reaching {
     failure: Option<Failure>,
     /// The status with which it last refused a hello of the peer.
     refusal: Option<u16>,
-    /// Why there is no session.
-    last_error: Option<LastError>,
 }
 
 impl Reaching {
@@ -86,7 +52,6 @@ impl Reaching {
             tried: false,
             failure: None,
             refusal: None,
-            last_error: None,
         }
     }
 
@@ -103,11 +68,10 @@ impl Reaching {
     /// Notes that an attempt of the node has failed. Returns whether the one before failed otherwise, if it did.
     pub fn fail(&mut self, failure: Failure) -> bool
         ensures otherwise { IsTrue result ↔ (self.old.failure ≢ Some failure) }
-        ensures failed { self.new ≡ failed failure self.old }
+        ensures failed { self.new ≡ record self.old { failure = Some failure } }
     {
         let otherwise = self.failure != Some(failure);
         self.failure = Some(failure);
-        self.last_error = Some(failure.error());
         otherwise
     }
 
@@ -115,18 +79,10 @@ impl Reaching {
     /// was one.
     pub fn refuse(&mut self, status: u16) -> bool
         ensures otherwise { IsTrue result ↔ (self.old.refusal ≢ Some status) }
-        ensures refused { self.new ≡ refused status self.old }
+        ensures refused { self.new ≡ record self.old { refusal = Some status } }
     {
         let otherwise = self.refusal != Some(status);
         self.refusal = Some(status);
-        self.last_error = Some(LastError::HelloRefused(status));
         otherwise
-    }
-
-    /// Returns why there is no session.
-    pub fn last_error(&self) -> Option<LastError>
-        ensures { result ≡ self.now.last_error }
-    {
-        self.last_error
     }
 }

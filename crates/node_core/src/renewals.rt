@@ -1,7 +1,7 @@
 //! For how long sessions end so that a table may get new numbers.
 
-ghost use Rattle.std.specs.Prelude.{◌≡◌, None};
-ghost use Rattle.node_core.specs.Renewals.{outcome, rest_after, since_after};
+ghost use Rattle.std.specs.Prelude.{◌≡◌, None, false};
+ghost use Rattle.node_core.specs.Renewals.{given_up_after, outcome, rest_after, since_after};
 
 /// For how long no session stands at most, in milliseconds.
 const MOST_PAUSE: u64 = 5_000;
@@ -27,6 +27,8 @@ pub struct Renewal {
     since: Option<u64>,
     /// Until when sessions stand, if it was given up, in milliseconds since the node began.
     rest: u64,
+    /// Whether it was given up since a table waits.
+    given_up: bool,
 }
 
 impl Renewal {
@@ -34,10 +36,12 @@ impl Renewal {
     pub fn new() -> Renewal
         ensures since { result.since ≡ None }
         ensures rest { result.rest ≡ 0 }
+        ensures given_up { result.given_up ≡ false }
     {
         Renewal {
             since: None,
             rest: 0,
+            given_up: false,
         }
     }
 
@@ -47,9 +51,11 @@ impl Renewal {
         ensures outcome { result ≡ outcome self.old.since self.old.rest waits now }
         ensures since { self.new.since ≡ since_after self.old.since self.old.rest waits now }
         ensures rest { self.new.rest ≡ rest_after self.old.since self.old.rest waits now }
+        ensures given_up { self.new.given_up ≡ given_up_after self.old.since self.old.given_up waits now }
     {
         if !waits {
             self.since = None;
+            self.given_up = false;
             return Renewing::Stand;
         }
         match self.since {
@@ -57,6 +63,7 @@ impl Renewal {
             Some(_) => {
                 self.since = None;
                 self.rest = now.saturating_add(REST);
+                self.given_up = true;
                 Renewing::GiveUp
             }
             None if now < self.rest => Renewing::Stand,
@@ -65,5 +72,12 @@ impl Renewal {
                 Renewing::Pause
             }
         }
+    }
+
+    /// Returns whether it was given up since a table waits.
+    pub fn is_given_up(&self) -> bool
+        ensures { result ≡ self.now.given_up }
+    {
+        self.given_up
     }
 }

@@ -1,7 +1,7 @@
 //! When the ticks of a session come.
 
 ghost use Rattle.std.specs.Prelude.{◌≡◌, ◌-◌, max};
-ghost use Rattle.node_core.specs.Ticks.{after_tick, begun, has_moved, is_due, is_lively, is_put_off, is_tick, is_unread, later, next_due, noted, others, ticked};
+ghost use Rattle.node_core.specs.Ticks.{after_tick, begun, has_moved, is_due, is_lively, is_own_time, is_put_off, is_tick, is_unread, later, next_due, noted, others, ticked};
 
 /// The time between two ticks of a lively session, in milliseconds.
 const TICK: u64 = 100;
@@ -32,6 +32,25 @@ pub struct Traffic {
     pub sent_at: u64,
 }
 
+/// What a session did since it last looked whether a tick comes.
+#[derive(Clone, Copy, Debug)]
+pub struct Busy {
+    /// When it looked.
+    pub since: u64,
+    /// How long its writes took, in milliseconds.
+    pub writing: u64,
+}
+
+impl Busy {
+    /// Returns whether the session did for no longer than `HELD_UP` anything else than write.
+    fn is_own_time(&self, now: u64) -> bool
+        ensures { result ≡ is_own_time now self.now }
+    {
+        let passed = now.saturating_sub(self.since);
+        passed.saturating_sub(self.writing) <= HELD_UP
+    }
+}
+
 /// Returns the time after a moment, as far as a moment can be.
 fn later(time: u64, moment: u64) -> u64
     ensures { result ≡ later time moment }
@@ -54,8 +73,8 @@ impl Traffic {
 /// long. All times are in milliseconds since the node began.
 ///
 /// A tick that is late by more than a second is put off by a second, once: this node was held up, so what has arrived since is to be
-/// read before the session judges what didn't come. For the same reason a tick before which the session has read nothing for 10 s
-/// waits until it has read what has arrived.
+/// read before the session judges what didn't come. The time of the session's own writes, to a peer that reads slowly, doesn't count as
+/// late. For the same reason a tick before which the session has read nothing for 10 s waits until it has read what has arrived.
 #[derive(Clone, Copy, Debug)]
 pub struct Ticks {
     /// When the next tick is due.
@@ -68,6 +87,8 @@ pub struct Ticks {
     heard: u64,
     /// Whether the last tick that was due was put off.
     put_off: bool,
+    /// Up to when the session did nothing but its own work: a tick isn't late before.
+    free: u64,
     /// What went over the connection so far.
     traffic: Traffic,
 }
@@ -83,6 +104,7 @@ impl Ticks {
             lively: now,
             heard: now,
             put_off: false,
+            free: now,
             traffic: Traffic {
                 sent: 0,
                 received: 0,
@@ -111,15 +133,18 @@ impl Ticks {
         self.next.max(heartbeat.min(silence))
     }
 
-    /// Notes what went over the connection up to now.
-    pub fn note(&mut self, now: u64, traffic: Traffic)
-        ensures { self.new ≡ noted now traffic self.old }
+    /// Notes what the session did since it last looked whether a tick comes, and what went over the connection up to now.
+    pub fn note(&mut self, now: u64, busy: Busy, traffic: Traffic)
+        ensures { self.new ≡ noted now busy traffic self.old }
     {
+        if busy.is_own_time(now) {
+            self.free = now;
+        }
         if traffic.received != self.traffic.received {
             self.heard = now;
         }
         if traffic.others() != self.traffic.others() {
-            if !self.is_lively(now) {
+            if !self.is_lively(now) && now < self.due {
                 self.next = self.next.max(later(TICK, now));
             }
             self.lively = now;
@@ -135,11 +160,11 @@ impl Ticks {
         now.saturating_sub(self.heard) >= SILENCE && self.traffic.received < arrived
     }
 
-    /// Returns whether the tick is late by more than `HELD_UP`, and wasn't put off before.
+    /// Returns whether the tick is late by more than `HELD_UP` for another cause than the session's own writes, and wasn't put off before.
     fn is_put_off(&self, now: u64) -> bool
         ensures { result ≡ is_put_off now self.now }
     {
-        !self.put_off && now.saturating_sub(self.due) > HELD_UP
+        !self.put_off && now.saturating_sub(self.due.max(self.free)) > HELD_UP
     }
 
     /// Returns whether a tick comes now, given how many bytes have arrived on the connection.

@@ -195,6 +195,8 @@ keys_lead (events.UpToDate teacher) texts numbers = peer_lead (name_of teacher) 
 keys_lead (events.HeldUp milliseconds) texts numbers = ms_lead milliseconds (first _ _ numbers)
 keys_lead (events.ConfigurationWarning warning) texts numbers = empty
 keys_lead (events.Renewed table) texts numbers = word_lead (codes " table=") table.now table_key (first _ _ texts)
+keys_lead (events.NotRenewed table) texts numbers = word_lead (codes " table=") table.now table_key (first _ _ texts)
+keys_lead (events.NotAccepted port want reason) texts numbers = port_lead port
 keys_lead (events.Omitted peer (omissions.Repeated event) count) texts numbers =
     let one = both (are_bytes event.now) (list_all are_bytes (texts_if (name_of peer))) texts in
     leads _ _ (peer_lead (name_of peer) one.1)
@@ -230,6 +232,8 @@ name_lead (events.UpToDate teacher) = record { calm = refl; printable = refl }
 name_lead (events.HeldUp milliseconds) = record { calm = refl; printable = refl }
 name_lead (events.ConfigurationWarning warning) = record { calm = refl; printable = refl }
 name_lead (events.Renewed table) = record { calm = refl; printable = refl }
+name_lead (events.NotRenewed table) = record { calm = refl; printable = refl }
+name_lead (events.NotAccepted port want reason) = record { calm = refl; printable = refl }
 name_lead (events.Omitted peer cause count) = record { calm = refl; printable = refl }
 name_lead events.Stop = record { calm = refl; printable = refl }
 

@@ -3,6 +3,7 @@ mod Counting
 mod EventLeads
 mod Leads
 mod LineLaws
+mod Rooms
 mod SenderLaws
 mod Spacing
 mod Telling

@@ -40,6 +40,8 @@ event_name (events.UpToDate teacher) = codes "up-to-date"
 event_name (events.HeldUp milliseconds) = codes "held-up"
 event_name (events.ConfigurationWarning warning) = codes "configuration-warning"
 event_name (events.Renewed table) = codes "renewed"
+event_name (events.NotRenewed table) = codes "not-renewed"
+event_name (events.NotAccepted port want reason) = codes "not-accepted"
 event_name (events.Omitted peer cause count) = codes "omitted"
 event_name events.Stop = codes "stop"
 
@@ -80,6 +82,8 @@ peer_event_level (peers.Fault fault) = levels.Warn
 
 abbrev pub level_of : Event → Level
 level_of (events.OfPeer name address event) = peer_event_level event
+level_of (events.NotRenewed table) = levels.Error
+level_of (events.NotAccepted port want reason) = levels.Error
 level_of (events.HelloRefused sender address refusal node said) = levels.Warn
 level_of (events.WrongPort port sender address listen) = levels.Warn
 level_of (events.HeldUp milliseconds) = levels.Warn

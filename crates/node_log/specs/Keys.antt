@@ -187,5 +187,7 @@ keys_text (events.UpToDate teacher) = peer_field (name_of teacher)
 keys_text (events.HeldUp milliseconds) = number_field (codes " ms=") milliseconds
 keys_text (events.ConfigurationWarning warning) = []
 keys_text (events.Renewed table) = word_field (codes " table=") table.now
+keys_text (events.NotRenewed table) = word_field (codes " table=") table.now
+keys_text (events.NotAccepted port want reason) = word_field (codes " port=") (port_name port)
 keys_text (events.Omitted peer cause count) = omission_fields (name_of peer) cause count
 keys_text events.Stop = []

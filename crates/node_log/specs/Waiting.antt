@@ -1,11 +1,14 @@
 -- The lines of the log that wait to be written.
-use Rattle.std.specs.Prelude.{◌≡◌, ◌&&◌, ◌||◌, ◌==◌, ◌++◌, ℕ, Bool, true, false, not, List, [], ◌∷◌, Option, None, Some, if◌then◌else◌, map, slice_get}
+use Rattle.std.specs.Prelude.{◌≡◌, ◌<◌, ◌&&◌, ◌||◌, ◌==◌, ◌++◌, ℕ, Bool, true, false, not, List, [], ◌∷◌, Option, None, Some, if◌then◌else◌, length, map, slice_get}
 use Rattle.std.specs.Borrow.{Bor}
 use Rattle.table_types.specs.Rosters.{is_same_name}
+use Rattle.node_core.specs.declared.events.Event.{Event}
 use Rattle.node_core.specs.declared.events.Event.TheVariants as events
 use Rattle.node_core.specs.declared.events.Omission.TheVariants as omissions
 use Rattle.node_log.specs.declared.limits.Limit.{Limit}
 use Rattle.node_log.specs.declared.lines.Form.{Form}
+use Rattle.node_log.specs.declared.waiting.Fate.{Fate}
+use Rattle.node_log.specs.declared.waiting.Fate.TheVariants as fates
 use Rattle.node_log.specs.declared.waiting.Limited.{Limited}
 use Rattle.node_log.specs.Keys.{name_of}
 use Rattle.node_log.specs.Limits.{after, owes, reported, unsaid}
@@ -34,6 +37,19 @@ with_line now new (l ∷ ls) = if are_of new.event.now new.peer l then record l 
 -- the same, of this event and this peer
 abbrev pub HaveLine : ℕ → List ℕ → Option ℕ → List Limited → List Limited → Type 0
 HaveLine now event peer before behind = (new : Limited) × (new.event.now ≡ event) × (new.peer ≡ peer) × (behind ≡ with_line now new before)
+
+-- ---- how many wait
+
+-- with the line of the event, more than 65,536 bytes would wait
+abbrev pub IsFull : Form → Event → List ℕ → Type 0
+IsFull form event before = (after : List ℕ) × Adds form event before after × (65536 < length after)
+
+-- the line is dropped
+abbrev pub is_dropped : Fate → Bool
+is_dropped fates.Waits = false
+is_dropped fates.LeftOut = false
+is_dropped fates.Full = true
+is_dropped fates.Lost = true
 
 -- ---- how many were left out
 

@@ -18,6 +18,8 @@ pub fn event_name(event: &Event<'_>) -> &'static str
         Event::HeldUp { .. } => "held-up",
         Event::ConfigurationWarning { .. } => "configuration-warning",
         Event::Renewed { .. } => "renewed",
+        Event::NotRenewed { .. } => "not-renewed",
+        Event::NotAccepted { .. } => "not-accepted",
         Event::Omitted { .. } => "omitted",
         Event::Stop => "stop",
     }
@@ -50,6 +52,7 @@ pub fn level_of(event: &Event<'_>) -> Level
     ensures { result ≡ level_of event.now }
 {
     match event {
+        Event::NotRenewed { .. } | Event::NotAccepted { .. } => Level::Error,
         Event::HelloRefused { .. }
         | Event::WrongPort { .. }
         | Event::HeldUp { .. }

@@ -79,7 +79,10 @@ pub(crate) fn push_keys(text: &mut Vec<u8>, event: &Event<'_>) -> Result<(), All
         }
         Event::UpToDate { teacher } => push_peer(text, *teacher),
         Event::HeldUp { milliseconds } => push_number_field(text, " ms=", *milliseconds),
-        Event::Renewed { table } => push_field(text, " table=", table),
+        Event::Renewed { table } | Event::NotRenewed { table } => {
+            push_field(text, " table=", table)
+        }
+        Event::NotAccepted { port, .. } => push_field(text, " port=", port_name(*port).as_bytes()),
         Event::Omitted { peer, cause, count } => push_omission(text, *peer, *cause, *count),
         Event::ConfigurationWarning { .. } | Event::Stop => Ok(()),
     }

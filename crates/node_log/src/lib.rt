@@ -2,8 +2,6 @@
 #![tactic(auto)]
 
 mod events;
-#[cfg(test)]
-mod examples;
 mod keys;
 mod laws;
 mod limits;
@@ -22,4 +20,4 @@ pub use limits::Limit;
 pub use lines::{Form, push_line};
 pub use senders::{called_by, is_greeting, pid_of, said_version, sender_of};
 pub use told::Told;
-pub use waiting::{Fate, Waiting};
+pub use waiting::{Fate, Lack, Waiting};

@@ -2,7 +2,7 @@
 
 use node_core::{
     Event, HelloRefusal, NoSession, Omission, PeerEvent, Port, Process, ResyncEnd, Sender,
-    SessionEnd, WaitEnd,
+    SessionEnd, WaitEnd, Want,
 };
 use node_text::cut;
 use std::alloc::{AllocError, Global};
@@ -50,6 +50,11 @@ pub(crate) fn sentence_of(alloc: Global, event: &Event<'_>) -> Result<String, Al
             alloc,
             "almost all numbers of this table are used up, so its rows get new ones, and all sessions begin anew",
         ),
+        Event::NotRenewed { .. } => String::from_str(
+            alloc,
+            "the rows of this table can't get new numbers, since a session is open in it still or memory ran out: it is tried again each minute, and if it isn't said that it has got them, start this node again",
+        ),
+        Event::NotAccepted { want, reason, .. } => want_sentence(alloc, *want, text_of(reason)),
         Event::Omitted { cause, count, .. } => omission_sentence(alloc, *cause, *count),
         Event::Stop => String::from_str(alloc, "the node stops"),
     }
@@ -74,6 +79,21 @@ fn port_sentence(port: Port) -> &'static str {
         Port::Peers => "peers connect here",
         Port::Admin => "requests are answered here",
         Port::Metrics => "metrics, health and readiness are read here",
+    }
+}
+
+/// Returns the sentence about a port at which no connection can be accepted, for this reason.
+fn want_sentence(alloc: Global, want: Want, reason: &str) -> Result<String, AllocError> {
+    match want {
+        Want::Descriptors => format!(in alloc;
+            "nobody can connect here, since this process has as many files and connections open as it may ({reason}): let it have more (LimitNOFILE= in its unit, ulimit -n), or end some connections"
+        ),
+        Want::HostDescriptors => format!(in alloc;
+            "nobody can connect here, since the host has as many files and connections open as it may ({reason}): let it have more (fs.file-max), or end processes that have many"
+        ),
+        Want::Memory => format!(in alloc;
+            "nobody can connect here, since the host lacks memory for it ({reason}): give it more, or end processes that have much"
+        ),
     }
 }
 

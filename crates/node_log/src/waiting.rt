@@ -1,10 +1,10 @@
 //! The lines of the log that wait to be written.
-ghost use Rattle.std.specs.Prelude.{◌≡◌, ◌≢◌, ◌+◌, ◌-◌, ◌++◌, ◌∷◌, ◌^◌, [], IfOk, IfSome, OnErr, OnOk, None, false, map, min, true};
+ghost use Rattle.std.specs.Prelude.{◌≡◌, ◌≢◌, ◌≤◌, ◌+◌, ◌-◌, ◌++◌, ◌∷◌, ◌^◌, [], IfErr, IfOk, IfSome, OnErr, OnOk, None, false, length, map, min, true};
 ghost use Rattle.node_log.specs.Events.{event_name};
 ghost use Rattle.node_log.specs.Keys.{name_of};
 ghost use Rattle.node_log.specs.Limits.{after, has_room, unsaid};
 ghost use Rattle.node_log.specs.Lines.{Adds};
-ghost use Rattle.node_log.specs.Waiting.{AddsDue, AddsOmitted, AreToldUpTo, HaveLine, are_of, is_due, is_same_peer, limit_of, name_at, told, told_if_due, with_line};
+ghost use Rattle.node_log.specs.Waiting.{AddsDue, AddsOmitted, AreToldUpTo, HaveLine, IsFull, are_of, is_dropped, is_due, is_same_peer, limit_of, name_at, told, told_if_due, with_line};
 
 use crate::events::event_name;
 use crate::limits::Limit;
@@ -14,7 +14,7 @@ use std::alloc::{AllocError, Global};
 use std::mem;
 use table_types::{Name, is_same_name};
 
-/// The most bytes of lines that wait. Further lines are dropped until some are written.
+/// The most bytes of lines that wait. A line that would pass that is dropped.
 const MOST_BYTES: usize = 65_536;
 
 /// What became of a line.
@@ -24,8 +24,28 @@ pub enum Fate {
     Waits,
     /// It is left out, and counted with others of its event about its peer.
     LeftOut,
-    /// It is dropped, since too many wait or memory ran out.
-    Dropped,
+    /// It is dropped, since too many wait.
+    Full,
+    /// It is dropped, since memory ran out.
+    Lost,
+}
+
+impl Fate {
+    /// Returns whether the line is dropped.
+    pub fn is_dropped(self) -> bool
+        ensures { result ≡ is_dropped self }
+    {
+        matches!(self, Fate::Full | Fate::Lost)
+    }
+}
+
+/// Why a line can't wait.
+#[derive(Clone, Copy, Debug, PartialEq, Eq)]
+pub enum Lack {
+    /// There is no room for it among those that wait.
+    Room,
+    /// Memory ran out.
+    Memory,
 }
 
 /// The lines of one event about one peer, or about none.
@@ -70,11 +90,12 @@ impl Limited {
         text: &mut Vec<u8>,
         form: Form,
         names: &[Name],
-    ) -> Result<(), AllocError>
+    ) -> Result<(), Lack>
         ensures told { OnOk result (self.new ≡ told self.old) }
         ensures line { OnOk result (AddsOmitted form names.now self.old text.old.items text.new.items) }
         ensures stays { OnErr result (self.new ≡ self.old) }
         ensures same { OnErr result (text.new.items ≡ text.old.items) }
+        ensures bound { OnOk result (length text.new.items ≤ 65536) }
     {
         let event = Event::Omitted {
             peer: name_at(names, self.peer),
@@ -87,19 +108,30 @@ impl Limited {
     }
 }
 
-/// Appends the line of an event, or nothing if memory runs out.
-fn append(
-    alloc: Global,
-    text: &mut Vec<u8>,
-    form: Form,
-    event: &Event<'_>,
-) -> Result<(), AllocError>
-    ensures line { OnOk result (Adds form event.now text.old.items text.new.items) }
-    ensures same { OnErr result (text.new.items ≡ text.old.items) }
+/// Returns the line of an event.
+fn line_of(alloc: Global, form: Form, event: &Event<'_>) -> Result<Vec<u8>, AllocError>
+    ensures { IfOk result (λ line. Adds form event.now [] line.items) }
 {
     let mut line = Vec::new(alloc);
     push_line(alloc, &mut line, form, event)?;
+    Ok(line)
+}
+
+/// Appends the line of an event, or nothing if there is no room for it or memory runs out.
+fn append(alloc: Global, text: &mut Vec<u8>, form: Form, event: &Event<'_>) -> Result<(), Lack>
+    ensures line { OnOk result (Adds form event.now text.old.items text.new.items) }
+    ensures same { OnErr result (text.new.items ≡ text.old.items) }
+    ensures bound { OnOk result (length text.new.items ≤ 65536) }
+    ensures full { IfErr result (λ lack. lack ≡ Lack.Room → IsFull form event.now text.old.items) }
+{
+    let Ok(line) = line_of(alloc, form, event) else {
+        return Err(Lack::Memory);
+    };
+    if line.len() > MOST_BYTES.saturating_sub(text.len()) {
+        return Err(Lack::Room);
+    }
     text.extend_from_slice(line.as_slice())
+        .map_err(|_| Lack::Memory)
 }
 
 /// Returns the name of the peer with this index, if there is one.
@@ -167,10 +199,11 @@ fn tell_all(
     form: Form,
     names: &[Name],
     last: bool,
-) -> Result<(), AllocError>
+) -> Result<(), Lack>
     ensures told { OnOk result (limits.new ≡ map (told_if_due now last) limits.old) }
     ensures lines { OnOk result (AddsDue form names.now now last limits.old text.old.items text.new.items) }
     ensures so_far { OnErr result (AreToldUpTo form names.now now last limits.old limits.new text.old.items text.new.items) }
+    ensures bound { length text.old.items ≤ 65536 → length text.new.items ≤ 65536 }
 {
     for limited in limits.iter_mut() {
         if limited.is_due(now, last) {
@@ -207,39 +240,36 @@ impl Waiting {
         true
     }
 
-    /// Appends a line, unless there is no room for it or memory runs out. Returns whether it waits.
-    fn push(&mut self, form: Form, event: &Event<'_>) -> bool
-        ensures waits { result ≡ true → Adds form event.now self.old.text.items self.new.text.items }
-        ensures dropped { result ≡ false → self.new.text.items ≡ self.old.text.items }
-        ensures limits { self.new.limits ≡ self.old.limits }
-        ensures unwritten { self.new.unwritten ≡ self.old.unwritten }
-    {
-        self.text.len() < MOST_BYTES && append(self.alloc, &mut self.text, form, event).is_ok()
-    }
-
     /// Adds the line of an event about the peer with this index, or about none, at a moment of the node's clock.
     pub fn add(&mut self, now: u64, form: Form, peer: Option<usize>, event: &Event<'_>) -> Fate
         ensures waits { result ≡ Fate.Waits → Adds form event.now self.old.text.items self.new.text.items }
         ensures same { result ≢ Fate.Waits → self.new.text.items ≡ self.old.text.items }
+        ensures bound { length self.old.text.items ≤ 65536 → length self.new.text.items ≤ 65536 }
+        ensures full { result ≡ Fate.Full → IsFull form event.now self.old.text.items }
         ensures left_out { result ≡ Fate.LeftOut → has_room now (limit_of (event_name event.now) peer self.old.limits.items) ≡ false }
         ensures said { has_room now (limit_of (event_name event.now) peer self.old.limits.items) ≡ true → result ≢ Fate.LeftOut }
-        ensures noted { result ≢ Fate.Dropped → HaveLine now (event_name event.now) peer self.old.limits.items self.new.limits.items }
-        ensures dropped { result ≡ Fate.Dropped → self.new.unwritten ≡ min (self.old.unwritten + 1) (2 ^ 64 - 1) }
-        ensures others { result ≢ Fate.Dropped → self.new.unwritten ≡ self.old.unwritten }
+        ensures noted { result ≢ Fate.Lost → HaveLine now (event_name event.now) peer self.old.limits.items self.new.limits.items }
+        ensures dropped { is_dropped result ≡ true → self.new.unwritten ≡ min (self.old.unwritten + 1) (2 ^ 64 - 1) }
+        ensures others { is_dropped result ≡ false → self.new.unwritten ≡ self.old.unwritten }
     {
         let new = Limited {
             event: event_name(event),
             peer,
             limit: Limit::new(),
         };
-        match says(&mut self.limits, now, new) {
-            Ok(true) if self.push(form, event) => Fate::Waits,
+        let fate = match says(&mut self.limits, now, new) {
+            Ok(true) => match append(self.alloc, &mut self.text, form, event) {
+                Ok(()) => Fate::Waits,
+                Err(Lack::Room) => Fate::Full,
+                Err(Lack::Memory) => Fate::Lost,
+            },
             Ok(false) => Fate::LeftOut,
-            Ok(true) | Err(AllocError) => {
-                self.note_unwritten(1);
-                Fate::Dropped
-            }
+            Err(AllocError) => Fate::Lost,
+        };
+        if fate.is_dropped() {
+            self.note_unwritten(1);
         }
+        fate
     }
 
     /// Returns how many lines were dropped, or couldn't be written, and weren't said to be.
@@ -264,17 +294,18 @@ impl Waiting {
     }
 
     /// Adds how many lines were left out, for each event and peer of which the first one was a second ago, or for all if no more lines
-    /// come. `names` are those of the peers. Those for which memory runs out stay to be said.
+    /// come. `names` are those of the peers. Those for which there is no room, or for which memory runs out, stay to be said.
     pub fn add_omitted(
         &mut self,
         now: u64,
         form: Form,
         names: &[Name],
         last: bool,
-    ) -> Result<(), AllocError>
+    ) -> Result<(), Lack>
         ensures told { OnOk result (self.new.limits.items ≡ map (told_if_due now last) self.old.limits.items) }
         ensures lines { OnOk result (AddsDue form names.now now last self.old.limits.items self.old.text.items self.new.text.items) }
         ensures so_far { OnErr result (AreToldUpTo form names.now now last self.old.limits.items self.new.limits.items self.old.text.items self.new.text.items) }
+        ensures bound { length self.old.text.items ≤ 65536 → length self.new.text.items ≤ 65536 }
         ensures unwritten { self.new.unwritten ≡ self.old.unwritten }
     {
         let limits = self.limits.as_mut_slice();

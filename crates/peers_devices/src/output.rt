@@ -43,7 +43,7 @@ pub fn write_all<W: Write + Faults>(output: &mut W, bytes: &[u8]) -> Result<(), 
     write_all_counted(output, &mut writes, earlier, bytes)
 }
 
-/// Writes all of the bytes, and adds what the writes came to to `writes`. Gives up if a write fails and the device's count of failed
+/// Writes all of the bytes, and counts the writes in `writes`. Gives up if a write fails and the device's count of failed
 /// calls is then above `earlier` (`Failed`), if a write takes none of its bytes, or if more than a million writes fail without being
 /// counted (`Stuck`).
 ///

@@ -35,8 +35,7 @@ falls_short shards stays (errors.Session refused) n now x s t act bytes answer o
 
 taken_as : (stays : Bool) (n now : ℕ) (x : SessionState) (s t : SeatState) (table number : ℕ) (event : Event) → IsTaken n s table number t event
     → Done stays n now x s (actions.Ack table number) [] (Some event) t
-taken_as stays n now x s t table number event (inl (settled, is, call)) = (refl, inl (settled, ap (λ (y : Event). Some y) is, call))
-taken_as stays n now x s t table number event (inr (is, call)) = (refl, inr (ap (λ (y : Event). Some y) is, call))
+taken_as stays n now x s t table number event taken = (refl, event, refl, taken)
 
 copied_as : (stays : Bool) (n now : ℕ) (x : SessionState) (s t : SeatState) (table : ℕ) (kind : CopyKind) (event : Event) → IsCopied stays n now s table kind t event
     → Done stays n now x s (actions.Copy table kind) [] (Some event) t

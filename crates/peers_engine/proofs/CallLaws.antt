@@ -1,6 +1,6 @@
 -- What the calls on tables do, by their answers.
 use Rattle.std.proofs.Common.{◌≡◌, ◌∙◌, ℕ, List, Option, None, Some, Result, Ok, Err, IfOk, IfErr, refl, sym, ap, subst, inl, inr}
-use Rattle.std.specs.Prelude.{Bool, true, false, OnOk, slice_get}
+use Rattle.std.specs.Prelude.{OnOk, slice_get}
 use Rattle.table_types.specs.declared.update.Update.{Update}
 use Rattle.table_types.specs.declared.copies.CopyKind.{CopyKind}
 use Rattle.table_types.specs.declared.copies.Settled.{Settled}
@@ -23,10 +23,9 @@ use Rattle.table_cell.specs.declared.events.Reply.{Reply}
 use Rattle.table_shards.specs.declared.answers.Answer.{Answer}
 use Rattle.table_shards.specs.declared.errors.ShardError.{ShardError}
 use Rattle.table_shards.specs.declared.errors.ShardError.TheVariants as errors
-use Rattle.table_shards.specs.Holding.{Holds, Leaves, Looks, Settles, after_refusal, receipted}
-use Rattle.table_shards.specs.Refusals.{needs_none, no_memory_to_ack, no_memory_to_close, no_memory_to_copy, no_memory_to_learn, no_memory_to_open}
-use Rattle.table_shards.specs.Noting.{Notes, if_ahead, if_full, if_latest, if_nothing, noted}
-use Rattle.table_shards.specs.Receipts.{SeatState, with_refusal}
+use Rattle.table_shards.specs.Holding.{Holds, Leaves, Looks, Settles, receipted}
+use Rattle.table_shards.specs.Noting.{Notes, if_settled, if_unclosed, if_uncopied, if_unlearned, if_unopened, if_untaken, noted}
+use Rattle.table_shards.specs.Receipts.{SeatState}
 use Rattle.session_core.specs.declared.event.Event.{Event}
 use Rattle.peers_engine.specs.declared.errors.EngineError.{EngineError}
 use Rattle.peers_engine.specs.declared.errors.EngineError.TheVariants as faults
@@ -55,17 +54,13 @@ noted_number : (table session count : ℕ) (answer : Option Answer) (s : SeatSta
 noted_number table session count None s = refl
 noted_number table session count (Some answer) s = refl
 
-after_number : (lacks : Bool) (s : SeatState) → (after_refusal lacks s).number ≡ s.number
-after_number true s = refl
-after_number false s = refl
-
-held_number : {A E : Type 0} (lacks : E → Bool) (call : CellState → Result A E → CellState → Type 0) (kept : A → SeatState) (table : ℕ) (c e : CellState) (s t : SeatState) (r : Result A (ShardError E))
-    → ((a : A) → (kept a).number ≡ s.number) → Holds lacks call kept table c s r e t → t.number ≡ s.number
-held_number lacks call kept table c e s t (Ok a) keeps (may, made, is) = number_kept (kept a) t is ∙ keeps a
-held_number lacks call kept table c e s t (Err errors.NoTable) keeps (other, same, is) = number_kept (with_refusal s) t is
-held_number lacks call kept table c e s t (Err (errors.SeatAhead seen found)) keeps (here, ahead, same, is) = number_kept (with_refusal s) t is
-held_number lacks call kept table c e s t (Err errors.Memory) keeps (may, same, is) = number_kept s t is
-held_number lacks call kept table c e s t (Err (errors.Cell error)) keeps (may, made, is) = number_kept (after_refusal (lacks error) s) t is ∙ after_number (lacks error) s
+held_number : {A E : Type 0} (call : CellState → Result A E → CellState → Type 0) (kept : A → SeatState) (table : ℕ) (c e : CellState) (s t : SeatState) (r : Result A (ShardError E))
+    → ((a : A) → (kept a).number ≡ s.number) → Holds call kept table c s r e t → t.number ≡ s.number
+held_number call kept table c e s t (Ok a) keeps (may, made, is) = number_kept (kept a) t is ∙ keeps a
+held_number call kept table c e s t (Err errors.NoTable) keeps (other, same, is) = number_kept s t is
+held_number call kept table c e s t (Err (errors.SeatAhead seen found)) keeps (here, ahead, same, is) = number_kept s t is
+held_number call kept table c e s t (Err errors.Memory) keeps (may, same, is) = number_kept s t is
+held_number call kept table c e s t (Err (errors.Cell error)) keeps (may, made, is) = number_kept s t is
 
 -- ---- learning
 
@@ -76,7 +71,7 @@ HasLearned c n now s u t result =
 
 abbrev NotesLearn : CellState → CellState → ℕ → ℕ → SeatState → Update → Result (Unit {0}) (ShardError LearnError) → SeatState → Type 0
 NotesLearn c e n now s u r t =
-    Notes (λ mid. Leaves no_memory_to_learn (λ x r y. Learns x n u now r y) (events.Learn n u now) replies.Learn u.table c s r e mid) u.table n (events_of c) (if_full u.number now r) t
+    Notes (λ mid. Leaves (λ x r y. Learns x n u now r y) (events.Learn n u now) replies.Learn u.table c s r e mid) u.table n (events_of c) (if_unlearned u.number now r) t
 
 learn_by : (n now : ℕ) (s t : SeatState) (u : Update) (c e : CellState) (r : Result (Unit {0}) (ShardError LearnError)) → IsSoundTable c → NotesLearn c e n now s u r t
     → HasLearned c n now s u t (learn_end r)
@@ -100,21 +95,21 @@ learn_by n now s t u c e (Err (errors.Cell learn_errors.Spent)) sound (mid, hold
 
 pub learn_ends : (n now : ℕ) (s t : SeatState) (u : Update) (c e : CellState) (r : Result (Unit {0}) (ShardError LearnError)) (result : Result (Unit {0}) EngineError)
     → result ≡ learn_end r → IsSoundTable c
-    → Notes (λ mid. Leaves no_memory_to_learn (λ x r y. Learns x n u now r y) (events.Learn n u now) replies.Learn u.table c s r e mid) u.table n (events_of c) (if_full u.number now r) t
+    → Notes (λ mid. Leaves (λ x r y. Learns x n u now r y) (events.Learn n u now) replies.Learn u.table c s r e mid) u.table n (events_of c) (if_unlearned u.number now r) t
     → HasLearned c n now s u t result
 learn_ends n now s t u c e r result is sound notes =
     subst (λ (x : Result (Unit {0}) EngineError). HasLearned c n now s u t x) (sym is) (learn_by n now s t u c e r sound notes)
 
 pub learn_number : (n now : ℕ) (s t : SeatState) (u : Update) (c e : CellState) (r : Result (Unit {0}) (ShardError LearnError))
-    → Notes (λ mid. Leaves no_memory_to_learn (λ x r y. Learns x n u now r y) (events.Learn n u now) replies.Learn u.table c s r e mid) u.table n (events_of c) (if_full u.number now r) t
+    → Notes (λ mid. Leaves (λ x r y. Learns x n u now r y) (events.Learn n u now) replies.Learn u.table c s r e mid) u.table n (events_of c) (if_unlearned u.number now r) t
     → t.number ≡ s.number
 learn_number n now s t u c e (Ok done) (mid, (reply, holds), left) =
     number_kept mid t left
-    ∙ held_number no_memory_to_learn (λ x r y. Learns x n u now r y) (λ (a : Reply). receipted u.table c s (events.Learn n u now) (replies.Learn a)) u.table c e s mid (Ok reply) (λ a. refl) holds
+    ∙ held_number (λ x r y. Learns x n u now r y) (λ (a : Reply). receipted u.table c s (events.Learn n u now) (replies.Learn a)) u.table c e s mid (Ok reply) (λ a. refl) holds
 learn_number n now s t u c e (Err why) (mid, holds, left) =
-    number_kept (noted u.table n (events_of c) (if_full {A = Unit {0}} u.number now (Err why)) mid) t left
-    ∙ (noted_number u.table n (events_of c) (if_full {A = Unit {0}} u.number now (Err why)) mid
-    ∙ held_number no_memory_to_learn (λ x r y. Learns x n u now r y) (λ (a : Reply). receipted u.table c s (events.Learn n u now) (replies.Learn a)) u.table c e s mid (Err why) (λ a. refl) holds)
+    number_kept (noted u.table n (events_of c) (if_unlearned {A = Unit {0}} u.number now (Err why)) mid) t left
+    ∙ (noted_number u.table n (events_of c) (if_unlearned {A = Unit {0}} u.number now (Err why)) mid
+    ∙ held_number (λ x r y. Learns x n u now r y) (λ (a : Reply). receipted u.table c s (events.Learn n u now) (replies.Learn a)) u.table c e s mid (Err why) (λ a. refl) holds)
 
 -- ---- copying
 
@@ -148,9 +143,9 @@ copy_ends n now s t table kind c r result is calls =
 pub copy_number : (n now : ℕ) (s t : SeatState) (table : ℕ) (kind : CopyKind) (c : CellState) (r : Result (List Update) (ShardError CopyError)) → CallsCopyOn c n now s table kind r t
     → t.number ≡ s.number
 copy_number n now s t table kind c r (sound, e, (mid, holds, left)) =
-    number_kept (noted table n (events_of c) (if_nothing kind most_copied now r) mid) t left
-    ∙ (noted_number table n (events_of c) (if_nothing kind most_copied now r) mid
-    ∙ held_number no_memory_to_copy (λ x r y. Copies x n kind most_copied now r y) (λ (batch : List Update). receipted table c s (events.Copy n kind most_copied now) (replies.Copy batch)) table c e s mid r (λ a. refl) holds)
+    number_kept (noted table n (events_of c) (if_uncopied kind most_copied now r) mid) t left
+    ∙ (noted_number table n (events_of c) (if_uncopied kind most_copied now r) mid
+    ∙ held_number (λ x r y. Copies x n kind most_copied now r y) (λ (batch : List Update). receipted table c s (events.Copy n kind most_copied now) (replies.Copy batch)) table c e s mid r (λ a. refl) holds)
 
 -- ---- acknowledging
 
@@ -178,9 +173,9 @@ ack_ends n s t table number r result is calls =
 
 pub ack_number : (n : ℕ) (s t : SeatState) (table number : ℕ) (r : Result Settled (ShardError AckError)) → CallsAck n s table number r t → t.number ≡ s.number
 ack_number n s t table number r (c, sound, e, (mid, holds, left)) =
-    number_kept (noted table n (events_of c) (if_ahead number r) mid) t left
-    ∙ (noted_number table n (events_of c) (if_ahead number r) mid
-    ∙ held_number no_memory_to_ack (λ x r y. Acknowledges x n number r y) (λ (settled : Settled). receipted table c s (events.Ack n number) (replies.Ack settled)) table c e s mid r (λ a. refl) holds)
+    number_kept (noted table n (events_of c) (if_untaken number r) mid) t left
+    ∙ (noted_number table n (events_of c) (if_untaken number r) mid
+    ∙ held_number (λ x r y. Acknowledges x n number r y) (λ (settled : Settled). receipted table c s (events.Ack n number) (replies.Ack settled)) table c e s mid r (λ a. refl) holds)
 
 -- ---- closing and opening
 
@@ -190,12 +185,12 @@ HasClosed n s table t result =
 
 close_by : (n : ℕ) (s t : SeatState) (table : ℕ) (r : Result (Unit {0}) (ShardError CloseError)) → CallsClose n s table r t → HasClosed n s table t (close_end r)
 close_by n s t table (Ok done) calls = (calls, tt)
-close_by n s t table (Err errors.Memory) (c, sound, e, holds) = (tt, holds.2)
-close_by n s t table (Err (errors.Cell close_errors.Memory)) (c, sound, e, holds) = (tt, holds.2)
-close_by n s t table (Err errors.NoTable) (c, sound, e, holds) = (tt, (Err errors.NoTable, refl, (c, sound, e, holds)))
-close_by n s t table (Err (errors.SeatAhead seen found)) (c, sound, e, holds) = (tt, (Err (errors.SeatAhead seen found), refl, (c, sound, e, holds)))
-close_by n s t table (Err (errors.Cell close_errors.NoSession)) (c, sound, e, holds) = (tt, (Err (errors.Cell close_errors.NoSession), refl, (c, sound, e, holds)))
-close_by n s t table (Err (errors.Cell close_errors.HistoryFull)) (c, sound, e, holds) = (tt, (Err (errors.Cell close_errors.HistoryFull), refl, (c, sound, e, holds)))
+close_by n s t table (Err errors.Memory) (c, sound, e, (mid, holds, left)) = (tt, left ∙ holds.2)
+close_by n s t table (Err (errors.Cell close_errors.Memory)) (c, sound, e, (mid, holds, left)) = (tt, left ∙ holds.2)
+close_by n s t table (Err errors.NoTable) (c, sound, e, (mid, holds, left)) = (tt, (Err errors.NoTable, refl, (c, sound, e, (mid, holds, left))))
+close_by n s t table (Err (errors.SeatAhead seen found)) (c, sound, e, (mid, holds, left)) = (tt, (Err (errors.SeatAhead seen found), refl, (c, sound, e, (mid, holds, left))))
+close_by n s t table (Err (errors.Cell close_errors.NoSession)) (c, sound, e, (mid, holds, left)) = (tt, (Err (errors.Cell close_errors.NoSession), refl, (c, sound, e, (mid, holds, left))))
+close_by n s t table (Err (errors.Cell close_errors.HistoryFull)) (c, sound, e, (mid, holds, left)) = (tt, (Err (errors.Cell close_errors.HistoryFull), refl, (c, sound, e, (mid, holds, left))))
 
 pub close_ends : (n : ℕ) (s t : SeatState) (table : ℕ) (r : Result (Unit {0}) (ShardError CloseError)) (result : Result (Unit {0}) EngineError)
     → result ≡ close_end r → CallsClose n s table r t → HasClosed n s table t result
@@ -208,15 +203,15 @@ HasOpened n version s table t result =
 
 open_by : (n : ℕ) (version : Version) (s t : SeatState) (table : ℕ) (r : Result (Unit {0}) (ShardError OpenError)) → CallsOpen n version s table r t → HasOpened n version s table t (open_end r)
 open_by n version s t table (Ok done) calls = (calls, tt)
-open_by n version s t table (Err errors.Memory) (c, sound, e, holds) = (tt, holds.2)
-open_by n version s t table (Err (errors.Cell open_errors.Memory)) (c, sound, e, holds) = (tt, holds.2)
-open_by n version s t table (Err errors.NoTable) (c, sound, e, holds) = (tt, (Err errors.NoTable, refl, (c, sound, e, holds)))
-open_by n version s t table (Err (errors.SeatAhead seen found)) (c, sound, e, holds) = (tt, (Err (errors.SeatAhead seen found), refl, (c, sound, e, holds)))
-open_by n version s t table (Err (errors.Cell open_errors.AlreadyOpen)) (c, sound, e, holds) =
-    (tt, (Err (errors.Cell open_errors.AlreadyOpen), refl, (c, sound, e, holds)))
-open_by n version s t table (Err (errors.Cell open_errors.TooMany)) (c, sound, e, holds) = (tt, (Err (errors.Cell open_errors.TooMany), refl, (c, sound, e, holds)))
-open_by n version s t table (Err (errors.Cell open_errors.HistoryFull)) (c, sound, e, holds) =
-    (tt, (Err (errors.Cell open_errors.HistoryFull), refl, (c, sound, e, holds)))
+open_by n version s t table (Err errors.Memory) (c, sound, e, (mid, holds, left)) = (tt, left ∙ holds.2)
+open_by n version s t table (Err (errors.Cell open_errors.Memory)) (c, sound, e, (mid, holds, left)) = (tt, left ∙ holds.2)
+open_by n version s t table (Err errors.NoTable) (c, sound, e, (mid, holds, left)) = (tt, (Err errors.NoTable, refl, (c, sound, e, (mid, holds, left))))
+open_by n version s t table (Err (errors.SeatAhead seen found)) (c, sound, e, (mid, holds, left)) = (tt, (Err (errors.SeatAhead seen found), refl, (c, sound, e, (mid, holds, left))))
+open_by n version s t table (Err (errors.Cell open_errors.AlreadyOpen)) (c, sound, e, (mid, holds, left)) =
+    (tt, (Err (errors.Cell open_errors.AlreadyOpen), refl, (c, sound, e, (mid, holds, left))))
+open_by n version s t table (Err (errors.Cell open_errors.TooMany)) (c, sound, e, (mid, holds, left)) = (tt, (Err (errors.Cell open_errors.TooMany), refl, (c, sound, e, (mid, holds, left))))
+open_by n version s t table (Err (errors.Cell open_errors.HistoryFull)) (c, sound, e, (mid, holds, left)) =
+    (tt, (Err (errors.Cell open_errors.HistoryFull), refl, (c, sound, e, (mid, holds, left))))
 
 pub open_ends : (n : ℕ) (version : Version) (s t : SeatState) (table : ℕ) (r : Result (Unit {0}) (ShardError OpenError)) (result : Result (Unit {0}) EngineError)
     → result ≡ open_end r → CallsOpen n version s table r t → HasOpened n version s table t result
@@ -224,12 +219,16 @@ open_ends n version s t table r result is calls =
     subst (λ (x : Result (Unit {0}) EngineError). HasOpened n version s table t x) (sym is) (open_by n version s t table r calls)
 
 pub close_number : (n : ℕ) (s t : SeatState) (table : ℕ) (r : Result (Unit {0}) (ShardError CloseError)) → CallsClose n s table r t → t.number ≡ s.number
-close_number n s t table r (c, sound, e, holds) =
-    held_number no_memory_to_close (λ x r y. Closes x n r y) (λ (done : Unit {0}). receipted table c s (events.Close n) replies.Close) table c e s t r (λ a. refl) holds
+close_number n s t table r (c, sound, e, (mid, holds, left)) =
+    number_kept (noted table n (events_of c) (if_unclosed r) mid) t left
+    ∙ (noted_number table n (events_of c) (if_unclosed r) mid
+    ∙ held_number (λ x r y. Closes x n r y) (λ (done : Unit {0}). receipted table c s (events.Close n) replies.Close) table c e s mid r (λ a. refl) holds)
 
 pub open_number : (n : ℕ) (version : Version) (s t : SeatState) (table : ℕ) (r : Result (Unit {0}) (ShardError OpenError)) → CallsOpen n version s table r t → t.number ≡ s.number
-open_number n version s t table r (c, sound, e, holds) =
-    held_number no_memory_to_open (λ x r y. Opens x n version r y) (λ (done : Unit {0}). receipted table c s (events.Open n version) replies.Open) table c e s t r (λ a. refl) holds
+open_number n version s t table r (c, sound, e, (mid, holds, left)) =
+    number_kept (noted table n (events_of c) (if_unopened version r) mid) t left
+    ∙ (noted_number table n (events_of c) (if_unopened version r) mid
+    ∙ held_number (λ x r y. Opens x n version r y) (λ (done : Unit {0}). receipted table c s (events.Open n version) replies.Open) table c e s mid r (λ a. refl) holds)
 
 -- ---- settling
 
@@ -238,7 +237,7 @@ HasSettled n s batch table t result =
     OnOk result (IsSettled n s batch t) × IfErr result (IsRefusal (t ≡ s) (RefusesBatch n s batch table t))
 
 abbrev pub NotesSettle : CellState → CellState → ℕ → SeatState → List Update → ℕ → Result (Unit {0}) (ShardError StrangeBatch) → SeatState → Type 0
-NotesSettle c e n s batch table r t = Notes (λ mid. Looks needs_none (λ x r y. Settles x n batch r y) table c s r e mid) table n (events_of c) (if_latest r) t
+NotesSettle c e n s batch table r t = Notes (λ mid. Looks (λ x r y. Settles x n batch r y) table c s r e mid) table n (events_of c) (if_settled r) t
 
 settle_by : (n : ℕ) (s t : SeatState) (batch : List Update) (u : Update) (c e : CellState) (r : Result (Unit {0}) (ShardError StrangeBatch)) → slice_get batch 0 ≡ Some u
     → IsSoundTable c → NotesSettle c e n s batch u.table r t → HasSettled n s batch u.table t (settle_end r)
@@ -255,16 +254,16 @@ pub settle_ends : (n : ℕ) (s t : SeatState) (batch : List Update) (u : Update)
 settle_ends n s t batch u c e r result is first sound notes =
     subst (λ (x : Result (Unit {0}) EngineError). HasSettled n s batch u.table t x) (sym is) (settle_by n s t batch u c e r first sound notes)
 
-looks_number : (lacks : StrangeBatch → Bool) (call : CellState → Result (Unit {0}) StrangeBatch → CellState → Type 0) (table : ℕ) (c e : CellState) (s t : SeatState) (r : Result (Unit {0}) (ShardError StrangeBatch))
-    → Looks lacks call table c s r e t → t.number ≡ s.number
-looks_number lacks call table c e s t (Ok done) (may, made, is) = number_kept s t is
-looks_number lacks call table c e s t (Err errors.NoTable) (other, same, is) = number_kept (with_refusal s) t is
-looks_number lacks call table c e s t (Err (errors.SeatAhead seen found)) (here, ahead, same, is) = number_kept (with_refusal s) t is
-looks_number lacks call table c e s t (Err errors.Memory) looks = absurd looks
-looks_number lacks call table c e s t (Err (errors.Cell error)) (may, made, is) = number_kept (after_refusal (lacks error) s) t is ∙ after_number (lacks error) s
+looks_number : (call : CellState → Result (Unit {0}) StrangeBatch → CellState → Type 0) (table : ℕ) (c e : CellState) (s t : SeatState) (r : Result (Unit {0}) (ShardError StrangeBatch))
+    → Looks call table c s r e t → t.number ≡ s.number
+looks_number call table c e s t (Ok done) (may, made, is) = number_kept s t is
+looks_number call table c e s t (Err errors.NoTable) (other, same, is) = number_kept s t is
+looks_number call table c e s t (Err (errors.SeatAhead seen found)) (here, ahead, same, is) = number_kept s t is
+looks_number call table c e s t (Err errors.Memory) looks = absurd looks
+looks_number call table c e s t (Err (errors.Cell error)) (may, made, is) = number_kept s t is
 
 pub settle_number : (n : ℕ) (s t : SeatState) (batch : List Update) (table : ℕ) (c e : CellState) (r : Result (Unit {0}) (ShardError StrangeBatch)) → NotesSettle c e n s batch table r t
     → t.number ≡ s.number
 settle_number n s t batch table c e r (mid, looks, left) =
-    number_kept (noted table n (events_of c) (if_latest r) mid) t left
-    ∙ (noted_number table n (events_of c) (if_latest r) mid ∙ looks_number needs_none (λ x r y. Settles x n batch r y) table c e s mid r looks)
+    number_kept (noted table n (events_of c) (if_settled r) mid) t left
+    ∙ (noted_number table n (events_of c) (if_settled r) mid ∙ looks_number (λ x r y. Settles x n batch r y) table c e s mid r looks)

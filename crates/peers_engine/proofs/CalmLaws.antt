@@ -28,9 +28,9 @@ use Rattle.session_core.specs.Shares.{all_quiet, is_out, out_set, quiet_set}
 use Rattle.session_core.specs.Actions.{reopens}
 use Rattle.session_core.specs.Courses.{Course, ack_received, acknowledged}
 use Rattle.session_core.specs.Paces.{Pace, inferred, is_ahead}
-use Rattle.session_core.specs.Keeping.{IsTicked, KeptSession, Steps, StepsAs, TicksAs, is_staying, standing}
+use Rattle.session_core.specs.Keeping.{KeptSession, Steps, StepsAs, is_staying, standing}
 use Rattle.session_core.specs.Sessions.{SessionState, FinishesResync, GoesIn, GoesOpen, HasNothing, Settles, StartsPendingResync, state_of}
-use Rattle.session_core.specs.Standing.{StandingState, Stands, TicksIn, Writes, answer_of_refusal, finished_if, heartbeats, leaving, without_tables}
+use Rattle.session_core.specs.Standing.{StandingState, Stands, TicksIn, Writes, answer_of_refusal, finished_if, heartbeats, leaving, reopening, without_tables, word_of}
 use Rattle.peers_engine.specs.Calls.{IsCopied}
 use Rattle.peers_engine.specs.Doing.{Done}
 use Rattle.peers_engine.specs.Acting.{Acts, IsGiven, IsGivenIn, Worker, asked, stands}
@@ -130,6 +130,9 @@ settled_mute settles.Older s c table acts e (is, goes) = are_at is_mute acts _ i
 open_mute : (s : SessionState) (c : Course) (event : Event) (acts : List Action) (e : SessionState) → is_mild event ≡ true → GoesOpen s c event acts e → are_mute acts ≡ true
 open_mute s c events.Opened acts e mild goes = absurd goes
 open_mute s c events.End acts e mild (is, goes) = are_at is_mute acts _ is refl
+open_mute s c events.Tick acts e mild (due, (is, goes)) = are_at is_mute acts _ is refl
+open_mute s c events.Ask acts e mild (due, (is, goes)) = are_at is_mute acts _ is refl
+open_mute s c events.CaughtUp acts e mild (due, (is, goes)) = are_at is_mute acts _ is refl
 open_mute s c events.ReadFault acts e mild (is, goes) = are_at is_mute acts _ is refl
 open_mute s c events.WriteFault acts e mild (is, goes) = are_at is_mute acts _ is refl
 open_mute s c (events.Nothing table) acts e mild (mid, answered, goes) = nothing_mute mid.teaching s mid table acts e goes
@@ -145,6 +148,9 @@ goes_mute (phases.Open c) s event acts e mild goes = open_mute s c event acts e 
 goes_mute phases.Ended s event acts e mild goes = absurd goes
 goes_mute (phases.New hello c) s events.Opened acts e mild (is, goes) = are_at is_mute acts _ is refl
 goes_mute (phases.New hello c) s events.End acts e mild (is, goes) = are_at is_mute acts _ is refl
+goes_mute (phases.New hello c) s events.Tick acts e mild (is, goes) = are_at is_mute acts _ is refl
+goes_mute (phases.New hello c) s events.Ask acts e mild (is, goes) = are_at is_mute acts _ is refl
+goes_mute (phases.New hello c) s events.CaughtUp acts e mild (is, goes) = are_at is_mute acts _ is refl
 goes_mute (phases.New hello c) s events.ReadFault acts e mild (is, goes) = are_at is_mute acts _ is refl
 goes_mute (phases.New hello c) s events.WriteFault acts e mild (is, goes) = are_at is_mute acts _ is refl
 goes_mute (phases.New hello c) s (events.Nothing table) acts e mild goes = absurd goes
@@ -156,6 +162,9 @@ goes_mute (phases.New hello c) s (events.Copied table batch) acts e mild goes = 
 goes_mute (phases.New hello c) s (events.Written known) acts e mild goes = absurd (false≢true mild)
 goes_mute (phases.Hello greeter kept c) s events.Opened acts e mild goes = absurd goes
 goes_mute (phases.Hello greeter kept c) s events.End acts e mild (is, goes) = are_at is_mute acts _ is refl
+goes_mute (phases.Hello greeter kept c) s events.Tick acts e mild (is, goes) = are_at is_mute acts _ is refl
+goes_mute (phases.Hello greeter kept c) s events.Ask acts e mild (is, goes) = are_at is_mute acts _ is refl
+goes_mute (phases.Hello greeter kept c) s events.CaughtUp acts e mild (is, goes) = are_at is_mute acts _ is refl
 goes_mute (phases.Hello greeter kept c) s events.ReadFault acts e mild (is, goes) = are_at is_mute acts _ is refl
 goes_mute (phases.Hello greeter kept c) s events.WriteFault acts e mild (is, goes) = are_at is_mute acts _ is refl
 goes_mute (phases.Hello greeter kept c) s (events.Nothing table) acts e mild goes = absurd goes
@@ -170,9 +179,39 @@ refusal_mild : (b : Bool) (table : ℕ) → is_mild (answer_of_refusal b table) 
 refusal_mild true table = refl
 refusal_mild false table = refl
 
+finished_mute : (b : Bool) (c : Course) → are_mute (finished_if b c).0 ≡ true
+finished_mute true c = refl
+finished_mute false c = refl
+
+heartbeats_mute : (b : Bool) → are_mute (heartbeats b) ≡ true
+heartbeats_mute true = refl
+heartbeats_mute false = refl
+
+leaving_mute : (left : List ℕ) (c : Course) → are_mute (leaving left c).0 ≡ true
+leaving_mute [] c = refl
+leaving_mute (table ∷ tables) c = finished_mute _ (without_tables (table ∷ tables) c)
+
+ticks_mute : (silent : Bool) (phase : Phase) (s e : StandingState) (now : ℕ) (left : List ℕ) (acts : List Action) → TicksIn silent phase s now left acts e → are_mute acts ≡ true
+ticks_mute true phase s e now left acts (none, is, ends, pace) = are_at is_mute acts _ is refl
+ticks_mute false (phases.New hello c) s e now left acts (none, is, same) = are_at is_mute acts _ is refl
+ticks_mute false (phases.Hello greeter bytes c) s e now left acts (none, is, same) = are_at is_mute acts _ is refl
+ticks_mute false (phases.Open c) s e now left acts (leaves, is, goes, pace) = are_at is_mute acts _ is (both_all is_mute (leaving left c).0 _ (leaving_mute left c) (heartbeats_mute _))
+ticks_mute false phases.Ended s e now left acts (none, is, same) = are_at is_mute acts _ is refl
+
+reopening_mute : (left : List ℕ) → are_mute (reopening left) ≡ true
+reopening_mute [] = refl
+reopening_mute (table ∷ left) = reopening_mute left
+
+word_mild : (b : Bool) → is_mild (word_of b) ≡ true
+word_mild true = refl
+word_mild false = refl
+
 stands_mute : (s : StandingState) (now : ℕ) (event : Event) (acts : List Action) (e : StandingState) → is_mild event ≡ true → Stands s now event acts e → are_mute acts ≡ true
 stands_mute s now events.Opened acts e mild (goes, pace) = goes_mute s.session.phase s.session events.Opened acts e.session refl goes
 stands_mute s now events.End acts e mild (goes, pace) = goes_mute s.session.phase s.session events.End acts e.session refl goes
+stands_mute s now events.Ask acts e mild (goes, pace) = goes_mute s.session.phase s.session events.Ask acts e.session refl goes
+stands_mute s now events.CaughtUp acts e mild (goes, pace) = goes_mute s.session.phase s.session (word_of s.pace.left) acts e.session (word_mild s.pace.left) goes
+stands_mute s now events.Tick acts e mild (asked, (left, rest, ticks, is)) = are_at is_mute acts _ is (both_all is_mute (reopening left) rest (reopening_mute left) (ticks_mute _ s.session.phase s e now left rest ticks))
 stands_mute s now events.ReadFault acts e mild (goes, pace) = goes_mute s.session.phase s.session events.ReadFault acts e.session refl goes
 stands_mute s now events.WriteFault acts e mild (goes, pace) = goes_mute s.session.phase s.session events.WriteFault acts e.session refl goes
 stands_mute s now (events.Nothing table) acts e mild (goes, pace) = goes_mute s.session.phase s.session (events.Nothing table) acts e.session refl goes
@@ -206,10 +245,6 @@ copied_fair (phases.New hello c) s table batch acts e goes = absurd goes
 copied_fair (phases.Hello greeter bytes c) s table batch acts e goes = absurd goes
 copied_fair (phases.Open c) s table batch acts e (mid, answered, copied) = are_at is_fair acts _ copied.0 refl
 copied_fair phases.Ended s table batch acts e goes = absurd goes
-
-finished_mute : (b : Bool) (c : Course) → are_mute (finished_if b c).0 ≡ true
-finished_mute true c = refl
-finished_mute false c = refl
 
 fair : (acts : List Action) → are_mute acts ≡ true → are_fair acts ≡ true
 fair acts mute = each is_light is_fair light_fair acts (each is_mute is_light mute_light acts mute)
@@ -297,6 +332,9 @@ given_light s now (Some (events.Written known)) steps e late given = elim (was_g
 given_light s now None steps e late given = light (asked steps) (given_mute s now None steps e late given)
 given_light s now (Some events.Opened) steps e late given = light (asked steps) (given_mute s now (Some events.Opened) steps e late given)
 given_light s now (Some events.End) steps e late given = light (asked steps) (given_mute s now (Some events.End) steps e late given)
+given_light s now (Some events.CaughtUp) steps e late given = light (asked steps) (given_mute s now (Some events.CaughtUp) steps e late given)
+given_light s now (Some events.Ask) steps e late given = light (asked steps) (given_mute s now (Some events.Ask) steps e late given)
+given_light s now (Some events.Tick) steps e late given = light (asked steps) (given_mute s now (Some events.Tick) steps e late given)
 given_light s now (Some events.ReadFault) steps e late given = light (asked steps) (given_mute s now (Some events.ReadFault) steps e late given)
 given_light s now (Some events.WriteFault) steps e late given = light (asked steps) (given_mute s now (Some events.WriteFault) steps e late given)
 given_light s now (Some (events.Nothing table)) steps e late given = light (asked steps) (given_mute s now (Some (events.Nothing table)) steps e late given)
@@ -316,6 +354,9 @@ answer_fair s now events.Opened acts e is taken = absurd (false≢true is)
 answer_fair s now events.Turn acts e is taken = absurd (false≢true is)
 answer_fair s now (events.Bytes bytes) acts e is taken = absurd (false≢true is)
 answer_fair s now events.End acts e is taken = absurd (false≢true is)
+answer_fair s now events.CaughtUp acts e is taken = absurd (false≢true is)
+answer_fair s now events.Ask acts e is taken = absurd (false≢true is)
+answer_fair s now events.Tick acts e is taken = absurd (false≢true is)
 answer_fair s now events.ReadFault acts e is taken = absurd (false≢true is)
 answer_fair s now events.WriteFault acts e is taken = absurd (false≢true is)
 
@@ -335,8 +376,8 @@ copied_is stays n now s t table kind event (c, at, is, inr (nothing, call)) = ap
 done_answered : (stays : Bool) (n now : ℕ) (x : SessionState) (s t : SeatState) (act : Action) (out : List ℕ) (answer : Option Event) → Done stays n now x s act out answer t → is_answered answer ≡ true
 done_answered stays n now x s t (actions.Send bytes) out answer (written, none, same) = ap is_answered none
 done_answered stays n now x s t (actions.Learn u) out answer (written, none, learned) = ap is_answered none
-done_answered stays n now x s t (actions.Ack table number) out answer (none, inl (settled, is, call)) = ap is_answered is
-done_answered stays n now x s t (actions.Ack table number) out answer (none, inr (is, call)) = ap is_answered is
+done_answered stays n now x s t (actions.Ack table number) out answer (none, event, is, inl (settled, same, call)) = ap is_answered is ∙ ap is_answer same
+done_answered stays n now x s t (actions.Ack table number) out answer (none, event, is, inr (same, call)) = ap is_answered is ∙ ap is_answer same
 done_answered stays n now x s t (actions.Reopen table) out answer (written, none, reopened) = ap is_answered none
 done_answered stays n now x s t (actions.Copy table kind) out answer (none, event, is, copied) = ap is_answered is ∙ copied_is stays n now s t table kind event copied
 done_answered stays n now x s t (actions.Teach batch) out answer (after, lesson, is, settled) = ap is_answered is
@@ -359,14 +400,17 @@ light_done stays n at x s t (actions.Learn u) out answer light (written, none, l
 light_done stays n at x s t (actions.Reopen table) out answer light (written, none, reopened) = ap is_mild_answer none
 light_done stays n at x s t (actions.Part kind) out answer light (written, none, same) = ap is_mild_answer none
 light_done stays n at x s t actions.Close out answer light (written, none, same) = ap is_mild_answer none
-light_done stays n at x s t (actions.Ack table number) out answer light (written, inl (settled, is, call)) = ap is_mild_answer is
-light_done stays n at x s t (actions.Ack table number) out answer light (written, inr (is, call)) = ap is_mild_answer is
+light_done stays n at x s t (actions.Ack table number) out answer light (written, event, is, inl (settled, same, call)) = ap is_mild_answer is ∙ ap is_mild same
+light_done stays n at x s t (actions.Ack table number) out answer light (written, event, is, inr (same, call)) = ap is_mild_answer is ∙ ap is_mild same
 light_done stays n at x s t (actions.Copy table kind) out answer light done = absurd (false≢true light)
 light_done stays n at x s t (actions.Teach batch) out answer light done = absurd (false≢true light)
 
 mild_late : (answer : Option Event) → is_mild_answer answer ≡ true → is_late_answer answer ≡ true
 mild_late None mild = refl
 mild_late (Some events.Opened) mild = refl
+mild_late (Some events.Tick) mild = refl
+mild_late (Some events.Ask) mild = refl
+mild_late (Some events.CaughtUp) mild = refl
 mild_late (Some events.End) mild = refl
 mild_late (Some events.ReadFault) mild = refl
 mild_late (Some events.WriteFault) mild = refl
@@ -438,29 +482,3 @@ ends_after_four s one two three e acts a b c d p q r t first second third fourth
     let light = fair_acts one two (asked a) b q fair second in
     let mute = light_acts two three (asked b) c r light third in
     ap asked (mute_acts three e (asked c) d t mute fourth)
-
--- ---- a tick
-
-heartbeats_mute : (b : Bool) → are_mute (heartbeats b) ≡ true
-heartbeats_mute true = refl
-heartbeats_mute false = refl
-
-leaving_mute : (left : List ℕ) (c : Course) → are_mute (leaving left c).0 ≡ true
-leaving_mute [] c = refl
-leaving_mute (table ∷ tables) c = finished_mute _ (without_tables (table ∷ tables) c)
-
-ticks_mute : (silent : Bool) (phase : Phase) (s e : StandingState) (now : ℕ) (left : List ℕ) (acts : List Action) → TicksIn silent phase s now left acts e → are_mute acts ≡ true
-ticks_mute true phase s e now left acts (none, is, ends, pace) = are_at is_mute acts _ is refl
-ticks_mute false (phases.New hello c) s e now left acts (none, is, same) = are_at is_mute acts _ is refl
-ticks_mute false (phases.Hello greeter bytes c) s e now left acts (none, is, same) = are_at is_mute acts _ is refl
-ticks_mute false (phases.Open c) s e now left acts (leaves, is, goes, pace) = are_at is_mute acts _ is (both_all is_mute (leaving left c).0 _ (leaving_mute left c) (heartbeats_mute _))
-ticks_mute false phases.Ended s e now left acts (none, is, same) = are_at is_mute acts _ is refl
-
-ticked_mute : (manner : Manner) (s e : KeptSession) (now : ℕ) (left : List ℕ) (acts : List Action) → TicksAs manner s now left acts e → are_mute acts ≡ true
-ticked_mute manners.Plain s e now left acts (may, none, is, same) = are_at is_mute acts _ is refl
-ticked_mute (manners.Staying p) s e now left acts (q, (may, ticks), same) = ticks_mute _ s.session.phase (standing s.session p) (standing e.session q) now left acts ticks
-
--- nothing that it asks for has an answer
-pub tick_ends : (w e : Worker) (mid : KeptSession) (seat : SeatState) (left : List ℕ) (acts : List Action) (answers : List (Event × List Action)) (out : List ℕ)
-    → IsTicked w.session w.now left acts mid → Acts (stands w mid seat) acts answers out e → asked answers ≡ []
-tick_ends w e mid seat left acts answers out ticks acted = ap asked (mute_acts (stands w mid seat) e acts answers out (ticked_mute w.session.manner w.session mid w.now left acts ticks.0) acted)

@@ -12,12 +12,13 @@ use Rattle.session_core.specs.declared.action.Action.{Action}
 use Rattle.session_core.specs.declared.action.Action.TheVariants as actions
 use Rattle.session_core.specs.declared.event.Event.{Event}
 use Rattle.session_core.specs.declared.state.State.TheVariants as states
-use Rattle.session_core.specs.Keeping.{KeptSession, Steps, Walks, is_staying}
+use Rattle.session_core.specs.Keeping.{KeptSession, Steps, is_staying}
+use Rattle.session_core.specs.Happenings.{Walks}
 use Rattle.session_core.specs.Sessions.{SessionState, ended, state_of}
 use Rattle.peers_engine.specs.declared.errors.EngineError.{EngineError}
 use Rattle.peers_engine.specs.Doing.{Done}
-use Rattle.peers_engine.specs.Acting.{Acts, DoesNotGoOn, DoneBy, FailsBy, IsCut, IsLost, Stops, IsGiven, Worker, asked, stands}
-use Rattle.peers_engine.specs.Turns.{Breaks, Halts, HaltsAt, Receives, Idles, Reacts, StopsTurn, TakesTurn, Turns, first_event, is_push}
+use Rattle.peers_engine.specs.Acting.{Acts, DoesNotGoOn, DoneBy, EndsAlike, FailsBy, IsCut, IsLost, IsOver, Stops, IsGiven, Worker, asked, stands}
+use Rattle.peers_engine.specs.Turns.{Breaks, BreaksAt, Halts, HaltsAt, Idles, Reacts, Receives, StopsTurn, TakesTurn, Turns, first_event, is_push}
 use Rattle.peers_engine.proofs.ActLaws.{acts_on, one_act, given_some}
 use Rattle.peers_engine.proofs.RunLaws.{acts_walk, same_moment, walks_on}
 
@@ -38,9 +39,9 @@ act_more s mid e seat acts act answer answers steps out bytes acted done gives =
 -- an action failed
 pub act_stops : (shards : ShardsState) (s mid : Worker) (seat : SeatState) (all before rest : List Action) (act : Action) (error : EngineError) (answers : List (Event × List Action)) (first last : List ℕ)
     → all ≡ before ++ (act ∷ rest) → Acts s before answers first mid → FailsBy shards mid act error last seat
-    → Stops shards s all error answers (first ++ last) mid.session.session seat
+    → Stops shards s all error answers (first ++ last) mid.session seat
 act_stops shards s mid seat all before rest act error answers first last is acted fails =
-    (before, act ∷ rest, first, last, mid, is, acted, inl (inl fails), refl, refl)
+    (before, act ∷ rest, first, last, mid, is, acted, inl (inl fails), refl, (refl, refl, refl))
 
 pub more_answers : (answers : List (Event × List Action)) (step : Event × List Action) → (answers ++ (step ∷ [])) ≢ []
 more_answers [] step is = cc is
@@ -50,14 +51,14 @@ more_answers (one ∷ answers) step is = cc is
 pub give_stops : (shards : ShardsState) (s mid : Worker) (e : KeptSession) (seat : SeatState) (all before rest : List Action) (act : Action) (answer : Option Event) (event : Event) (error : EngineError) (answers : List (Event × List Action)) (first bytes : List ℕ)
     → all ≡ before ++ (act ∷ rest) → Acts s before answers first mid → DoneBy mid act bytes answer seat → answer ≡ Some event
     → state_of mid.session.session.phase ≢ states.Ended → DoesNotGoOn mid.session mid.now event error e
-    → (answers' : List (Event × List Action)) × Stops shards s all error answers' (first ++ bytes) e.session seat
+    → (answers' : List (Event × List Action)) × Stops shards s all error answers' (first ++ bytes) e seat
 give_stops shards s mid e seat all before rest act answer event error answers first bytes is acted done some going (inl (refused, over)) =
     let answered = subst (λ (x : Option Event). DoneBy mid act bytes x seat) some done in
-    (answers, (before, act ∷ rest, first, bytes, mid, is, acted, inl (inr (event, answered, going, refused)), refl, ap ended over))
+    (answers, (before, act ∷ rest, first, bytes, mid, is, acted, inl (inr (event, answered, going, refused)), refl, (ap ended over.0, over.1, over.2)))
 give_stops shards s mid e seat all before rest act answer event error answers first bytes is acted done some going (inr (acts, taken, memory)) =
     let rejoined : all ≡ (before ++ (act ∷ [])) ++ rest = is ∙ sym (append_assoc before (act ∷ []) rest) in
     let more = act_more s mid e seat before act answer answers ((event, acts) ∷ []) first bytes acted done (given_some mid.session e mid.now answer event acts some taken) in
-    (answers ++ ((event, acts) ∷ []), (before ++ (act ∷ []), rest, first ++ bytes, [], stands mid e seat, rejoined, more, inr ((more_answers answers (event, acts), memory, refl), refl), sym (append-nil (first ++ bytes)), refl))
+    (answers ++ ((event, acts) ∷ []), (before ++ (act ∷ []), rest, first ++ bytes, [], stands mid e seat, rejoined, more, inr ((more_answers answers (event, acts), memory, refl), refl), sym (append-nil (first ++ bytes)), (refl, refl, refl)))
 
 -- ---- what the answers ask for, one list after another
 
@@ -99,7 +100,7 @@ react_done s e mid event acts done given out taken (answers, acted, all) none =
     (acts, answers, mid, taken, subst (λ (x : List Action). Acts (stands s mid s.seat) (acts ++ x) answers out e) (sym is) acted)
 
 -- an error among the actions `given`
-pub react_stops : (shards : ShardsState) (s next : Worker) (mid : KeptSession) (e : SessionState) (seat : SeatState) (event : Event) (acts done given : List Action) (error : EngineError) (more : List (Event × List Action)) (out rest : List ℕ)
+pub react_stops : (shards : ShardsState) (s next : Worker) (mid e : KeptSession) (seat : SeatState) (event : Event) (acts done given : List Action) (error : EngineError) (more : List (Event × List Action)) (out rest : List ℕ)
     → Steps s.session s.now event acts mid → Went (stands s mid s.seat) acts done given next out → Stops shards next given error more rest e seat → Halts shards s event error (out ++ rest) e seat
 react_stops shards s next mid e seat event acts done given error more out rest taken (answers, acted, asks) (before, left, first, last, then, is, also, cut, written, same) =
     let all : acts ++ asked (answers ++ more) ≡ ((acts ++ done) ++ before) ++ (left ++ asked more) =
@@ -113,7 +114,7 @@ react_stops shards s next mid e seat event acts done given error more out rest t
     inr (acts, answers ++ more, mid, taken, ((acts ++ done) ++ before, left ++ asked more, out ++ first, last, then, all, done_on, lost_later shards then seat (left ++ asked more) answers more error last (cut_more shards then seat left (asked more) more error last cut), rejoined, same))
 
 -- an error among what the event itself asked for
-pub react_stops_first : (shards : ShardsState) (s : Worker) (mid : KeptSession) (e : SessionState) (seat : SeatState) (event : Event) (acts : List Action) (error : EngineError) (answers : List (Event × List Action)) (out : List ℕ)
+pub react_stops_first : (shards : ShardsState) (s : Worker) (mid e : KeptSession) (seat : SeatState) (event : Event) (acts : List Action) (error : EngineError) (answers : List (Event × List Action)) (out : List ℕ)
     → Steps s.session s.now event acts mid → Stops shards (stands s mid s.seat) acts error answers out e seat → Halts shards s event error out e seat
 react_stops_first shards s mid e seat event acts error answers out taken (before, rest, first, last, next, is, acted, cut, written, same) =
     let all : acts ++ asked answers ≡ before ++ (rest ++ asked answers) = ap (λ (x : List Action). x ++ asked answers) is ∙ append_assoc before rest (asked answers) in
@@ -121,7 +122,7 @@ react_stops_first shards s mid e seat event acts error answers out taken (before
 
 -- ---- runs
 
-walk_of : (s e : Worker) (event : Event) (out : List ℕ) → Reacts s event out e → (acts : List Action) × (steps : List (Event × List Action)) × Walks s.now s.session ((event, acts) ∷ steps) e.session
+pub walk_of : (s e : Worker) (event : Event) (out : List ℕ) → Reacts s event out e → (acts : List Action) × (steps : List (Event × List Action)) × Walks s.now s.session ((event, acts) ∷ steps) e.session
 walk_of s e event out (acts, answers, mid, taken, done) = (acts, answers, (mid, taken, acts_walk (stands s mid s.seat) e (acts ++ asked answers) answers out done))
 
 idles_walk : (s e : Worker) (event : Event) → Idles s event e → (e.now ≡ s.now) × ((acts : List Action) × (steps : List (Event × List Action)) × Walks s.now s.session ((event, acts) ∷ steps) e.session)
@@ -142,52 +143,69 @@ turns_of s e received out (inr (mid, idles, receives)) =
     (one.1.0, one.1.1 ++ more.0, walks_on s.now s.session mid.session e.session ((first_event (state_of s.session.session.phase), one.1.0) ∷ one.1.1) more.0 one.1.2 then)
 
 -- how far a run went
-abbrev Ran : ℕ → KeptSession → Event → SessionState → Type 0
+abbrev Ran : ℕ → KeptSession → Event → KeptSession → Type 0
 Ran now s event e =
-    (acts : List Action) × (steps : List (Event × List Action)) × (mid : KeptSession) × Walks now s ((event, acts) ∷ steps) mid × (ended e ≡ ended mid.session)
+    (acts : List Action) × (steps : List (Event × List Action)) × (mid : KeptSession) × Walks now s ((event, acts) ∷ steps) mid × EndsAlike mid e
 
-halts_ran : (shards : ShardsState) (s : Worker) (e : SessionState) (seat : SeatState) (event : Event) (error : EngineError) (out : List ℕ) → Halts shards s event error out e seat → (ended e ≡ ended s.session.session) ⊎ Ran s.now s.session event e
+halts_ran : (shards : ShardsState) (s : Worker) (e : KeptSession) (seat : SeatState) (event : Event) (error : EngineError) (out : List ℕ) → Halts shards s event error out e seat → EndsAlike s.session e ⊎ Ran s.now s.session event e
 halts_ran shards s e seat event error out (inl (refused, none, same, stays)) = inl same
 halts_ran shards s e seat event error out (inr (acts, answers, mid, taken, (before, rest, first, last, next, is, acted, cut, written, same))) =
     inr (acts, answers, next.session, (mid, taken, acts_walk (stands s mid s.seat) next before answers first acted), same)
 
-halted_ran : (shards : ShardsState) (s : Worker) (e : SessionState) (seat : SeatState) (received : Option Event) (error : EngineError) (out : List ℕ) → HaltsAt shards s received error out e seat
-    → (steps : List (Event × List Action)) × (mid : KeptSession) × Walks s.now s.session steps mid × (ended e ≡ ended mid.session)
+halted_ran : (shards : ShardsState) (s : Worker) (e : KeptSession) (seat : SeatState) (received : Option Event) (error : EngineError) (out : List ℕ) → HaltsAt shards s received error out e seat
+    → (steps : List (Event × List Action)) × (mid : KeptSession) × Walks s.now s.session steps mid × EndsAlike mid e
 halted_ran shards s e seat None error out (unread, nothing, same, stays) = ([], s.session, refl, same)
 halted_ran shards s e seat (Some event) error out halts = elim (halts_ran shards s e seat event error out halts) [
   | inl same ↦ ([], s.session, refl, same)
   | inr ran ↦ ((event, ran.0) ∷ ran.1, ran.2, ran.3, ran.4)
 ]
 
+-- the session is then ended
+over_after : (s e new : KeptSession) → EndsAlike s e → IsOver e new → IsOver s new
+over_after s e new same is = (is.0 ∙ same.0, is.1 ∙ same.1, is.2 ∙ same.2)
+
 -- the session moved by a run or none, and was then ended
-pub breaks_of : (shards : ShardsState) {untouched : Type 0} (s : Worker) (e new : SessionState) (seat : SeatState) (received : Option Event) (error : EngineError) (out : List ℕ) → StopsTurn shards untouched s received error out e seat → new ≡ ended e → Breaks s.now s.session new
+pub breaks_of : (shards : ShardsState) {untouched : Type 0} (s : Worker) (e new : KeptSession) (seat : SeatState) (received : Option Event) (error : EngineError) (out : List ℕ) → StopsTurn shards untouched s received error out e seat → IsOver e new → Breaks s.now s.session new
 breaks_of shards s e new seat received error out (inl (still, none, halts)) is = elim (halts_ran shards s e seat (first_event (state_of s.session.session.phase)) error out halts) [
-  | inl same ↦ inl (is ∙ same)
-  | inr ran ↦ inr (ran.2, (ran.0, ran.1, ran.3), is ∙ ran.4)
+  | inl same ↦ inl (over_after s.session e new same is)
+  | inr ran ↦ inr (ran.2, (ran.0, ran.1, ran.3), over_after ran.2 e new ran.4 is)
 ]
 breaks_of shards s e new seat received error out (inr (mid, idles, halts)) is =
     let one = idles_walk s mid (first_event (state_of s.session.session.phase)) idles in
     let more = halted_ran shards mid e seat received error out halts in
     let then = subst (λ (m : ℕ). Walks m mid.session more.0 more.1) one.0 more.2 in
-    inr (more.1, (one.1.0, one.1.1 ++ more.0, walks_on s.now s.session mid.session more.1 ((first_event (state_of s.session.session.phase), one.1.0) ∷ one.1.1) more.0 one.1.2 then), is ∙ more.3)
+    inr (more.1, (one.1.0, one.1.1 ++ more.0, walks_on s.now s.session mid.session more.1 ((first_event (state_of s.session.session.phase), one.1.0) ∷ one.1.1) more.0 one.1.2 then), over_after more.1 e new more.3 is)
+
+-- so it is of one event
+pub breaks_at : (shards : ShardsState) (s : Worker) (e new : KeptSession) (seat : SeatState) (event : Event) (error : EngineError) (out : List ℕ) → Halts shards s event error out e seat → IsOver e new → BreaksAt s.now event s.session new
+breaks_at shards s e new seat event error out halts is = elim (halts_ran shards s e seat event error out halts) [
+  | inl same ↦ inl (over_after s.session e new same is)
+  | inr ran ↦ inr (ran.2, (ran.0, ran.1, ran.3), over_after ran.2 e new ran.4 is)
+]
 
 -- ---- the end
 
-halt_ended : (shards : ShardsState) (s : Worker) (e : SessionState) (seat : SeatState) (event : Event) (error : EngineError) (out : List ℕ) → Halts shards s event error out e seat → Halts shards s event error out (ended e) seat
-halt_ended shards s e seat event error out (inl halts) = inl halts
-halt_ended shards s e seat event error out (inr halts) = inr halts
+alike_after : (s e new : KeptSession) → EndsAlike s e → IsOver e new → EndsAlike s new
+alike_after s e new same is = (ap ended is.0 ∙ same.0, is.1 ∙ same.1, is.2 ∙ same.2)
 
-halts_ended : (shards : ShardsState) (s : Worker) (e : SessionState) (seat : SeatState) (received : Option Event) (error : EngineError) (out : List ℕ) → HaltsAt shards s received error out e seat → HaltsAt shards s received error out (ended e) seat
-halts_ended shards s e seat None error out halts = halts
-halts_ended shards s e seat (Some event) error out halts = halt_ended shards s e seat event error out halts
+stop_ended : (shards : ShardsState) (s : Worker) (e new : KeptSession) (seat : SeatState) (acts : List Action) (error : EngineError) (answers : List (Event × List Action)) (out : List ℕ)
+    → Stops shards s acts error answers out e seat → IsOver e new → Stops shards s acts error answers out new seat
+stop_ended shards s e new seat acts error answers out (before, rest, first, last, mid, is, acted, cut, written, same) over =
+    (before, rest, first, last, mid, is, acted, cut, written, alike_after mid.session e new same over)
 
-stops_ended : (shards : ShardsState) {untouched : Type 0} (s : Worker) (e : SessionState) (seat : SeatState) (received : Option Event) (error : EngineError) (out : List ℕ) → StopsTurn shards untouched s received error out e seat → StopsTurn shards untouched s received error out (ended e) seat
-stops_ended shards s e seat received error out (inl (still, none, halts)) = inl (still, none, halt_ended shards s e seat (first_event (state_of s.session.session.phase)) error out halts)
-stops_ended shards s e seat received error out (inr (mid, idles, halts)) = inr (mid, idles, halts_ended shards mid e seat received error out halts)
+pub halt_ended : (shards : ShardsState) (s : Worker) (e new : KeptSession) (seat : SeatState) (event : Event) (error : EngineError) (out : List ℕ) → Halts shards s event error out e seat → IsOver e new → Halts shards s event error out new seat
+halt_ended shards s e new seat event error out (inl (refused, nothing, same, stays)) over = inl (refused, nothing, alike_after s.session e new same over, stays)
+halt_ended shards s e new seat event error out (inr (acts, answers, mid, taken, stops)) over =
+    inr (acts, answers, mid, taken, stop_ended shards (stands s mid s.seat) e new seat (acts ++ asked answers) error answers out stops over)
+
+halts_ended : (shards : ShardsState) (s : Worker) (e new : KeptSession) (seat : SeatState) (received : Option Event) (error : EngineError) (out : List ℕ) → HaltsAt shards s received error out e seat → IsOver e new → HaltsAt shards s received error out new seat
+halts_ended shards s e new seat None error out (unread, nothing, same, stays) over = (unread, nothing, alike_after s.session e new same over, stays)
+halts_ended shards s e new seat (Some event) error out halts over = halt_ended shards s e new seat event error out halts over
 
 -- what was written stays so when the session is ended
-pub halted : (shards : ShardsState) {untouched : Type 0} (s : Worker) (e new : SessionState) (seat : SeatState) (received : Option Event) (error : EngineError) (out : List ℕ) → StopsTurn shards untouched s received error out e seat → new ≡ ended e → StopsTurn shards untouched s received error out new seat
-halted shards {untouched} s e new seat received error out halts is = subst (λ (x : SessionState). StopsTurn shards untouched s received error out x seat) (sym is) (stops_ended shards s e seat received error out halts)
+pub halted : (shards : ShardsState) {untouched : Type 0} (s : Worker) (e new : KeptSession) (seat : SeatState) (received : Option Event) (error : EngineError) (out : List ℕ) → StopsTurn shards untouched s received error out e seat → IsOver e new → StopsTurn shards untouched s received error out new seat
+halted shards s e new seat received error out (inl (still, none, halts)) over = inl (still, none, halt_ended shards s e new seat (first_event (state_of s.session.session.phase)) error out halts over)
+halted shards s e new seat received error out (inr (mid, idles, halts)) over = inr (mid, idles, halts_ended shards mid e new seat received error out halts over)
 
 -- ---- nothing to do
 

@@ -10,6 +10,5 @@ mod OneActionLaws
 mod PiecesLaws
 mod RunLaws
 mod TakenLaws
-mod TickLaws
 mod TurnLaws
 mod WorkLaws

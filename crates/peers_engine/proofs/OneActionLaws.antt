@@ -11,7 +11,7 @@ use Rattle.session_core.specs.declared.action.Action.{Action}
 use Rattle.session_core.specs.declared.event.Event.{Event}
 use Rattle.session_core.specs.declared.state.State.TheVariants as states
 use Rattle.session_core.specs.Keeping.{KeptSession}
-use Rattle.session_core.specs.Sessions.{SessionState, state_of}
+use Rattle.session_core.specs.Sessions.{state_of}
 use Rattle.peers_engine.specs.declared.errors.EngineError.{EngineError}
 use Rattle.peers_engine.specs.Acting.{Acts, DoesNotGoOn, IsGiven, Stops, Worker, asked, stands}
 use Rattle.peers_engine.proofs.ActLaws.{acts_on, one_act}
@@ -44,7 +44,7 @@ none_yet w old = ([], [], (refl, refl, refl), refl, writes_nothing old)
 
 -- it fails
 pub fails_alone : (shards : ShardsState) (w : Worker) (seat : SeatState) (act : Action) (error : EngineError) (old new : Written)
-    → OneFailsBy shards w seat act old new error → AreStopped shards w (act ∷ []) error w.session.session seat old new
+    → OneFailsBy shards w seat act old new error → AreStopped shards w (act ∷ []) error w.session seat old new
 fails_alone shards w seat act error old new fails =
     next_fails shards w w seat (act ∷ []) [] [] [] act error old old new refl (none_yet w old) fails
 
@@ -52,7 +52,7 @@ fails_alone shards w seat act error old new fails =
 pub unanswered : (shards : ShardsState) (w : Worker) (e : KeptSession) (seat : SeatState) (act : Action) (answer : Event) (error : EngineError) (old new : Written)
     → OneDoneBy w seat act old new (Some answer)
     → (state_of w.session.session.phase ≢ states.Ended) × DoesNotGoOn w.session w.now answer error e
-    → AreStopped shards w (act ∷ []) error e.session seat old new
+    → AreStopped shards w (act ∷ []) error e seat old new
 unanswered shards w e seat act answer error old new done (going, stuck) =
     give_fails shards w w e seat (act ∷ []) [] [] [] act (Some answer) error old old new refl (none_yet w old) done (answer, refl, going, stuck)
 
@@ -68,7 +68,7 @@ one_more s mid e before given more act a b d (answers, out, acted, kept, appende
   writes_then a b d out bytes appended then,
 )
 
-stops_on : (shards : ShardsState) (s mid : Worker) (e : SessionState) (seat : SeatState) (before rest : List Action) (act : Action) (error : EngineError) (answers more : List (Event × List Action)) (out last : List ℕ)
+stops_on : (shards : ShardsState) (s mid : Worker) (e : KeptSession) (seat : SeatState) (before rest : List Action) (act : Action) (error : EngineError) (answers more : List (Event × List Action)) (out last : List ℕ)
     → Acts s before answers out mid → Stops shards mid (act ∷ []) error more last e seat → Stops shards s (before ++ (act ∷ rest)) error (answers ++ more) (out ++ last) e seat
 stops_on shards s mid e seat before rest act error answers more out last acted (done, left, first, cut, then, is, also, why, written, over) = (
   before ++ done,
@@ -83,7 +83,7 @@ stops_on shards s mid e seat before rest act error answers more out last acted (
   over,
 )
 
-pub one_fails : (shards : ShardsState) (s mid : Worker) (e : SessionState) (seat : SeatState) (all before rest given : List Action) (act : Action) (error : EngineError) (a b d : Written)
+pub one_fails : (shards : ShardsState) (s mid : Worker) (e : KeptSession) (seat : SeatState) (all before rest given : List Action) (act : Action) (error : EngineError) (a b d : Written)
     → all ≡ before ++ (act ∷ rest) → AreDone s before given mid a b → AreStopped shards mid (act ∷ []) error e seat b d → AreStopped shards s all error e seat a d
 one_fails shards s mid e seat all before rest given act error a b d is (answers, out, acted, kept, appended) (more, last, stops, then) = (
   answers ++ more,

@@ -16,16 +16,16 @@ use Rattle.session_core.specs.declared.state.State.TheVariants as states
 use Rattle.session_core.specs.Phases.{Phase}
 use Rattle.session_core.specs.Phases as phases
 use Rattle.session_core.specs.Courses.{state_of_course}
-use Rattle.session_core.specs.Sessions.{SessionState, Refuses, ended, state_of}
+use Rattle.session_core.specs.Sessions.{SessionState, Refuses, state_of}
 use Rattle.session_core.specs.Keeping.{KeptSession, Steps, is_staying}
 use Rattle.peers_engine.specs.declared.errors.EngineError.{EngineError}
 use Rattle.peers_engine.specs.declared.errors.EngineError.TheVariants as errors
 use Rattle.peers_engine.specs.Doing.{Done, Fails}
-use Rattle.peers_engine.specs.Acting.{Acts, DoesNotGoOn, Stops, Worker, asked, stands}
+use Rattle.peers_engine.specs.Acting.{Acts, DoesNotGoOn, IsOver, Stops, Worker, asked, stands}
 use Rattle.peers_engine.specs.Reading.{IsRead}
-use Rattle.peers_engine.specs.Turns.{Breaks, Halts, HaltsAt, Receives, Idles, Reacts, StopsTurn, TakesTurn, Turns, first_event, is_push}
+use Rattle.peers_engine.specs.Turns.{Breaks, BreaksAt, Halts, HaltsAt, Moves, Receives, Idles, Reacts, StopsTurn, TakesTurn, Turns, first_event, is_push}
 use Rattle.peers_engine.proofs.CalmLaws.{ends_after_four}
-use Rattle.peers_engine.proofs.HaltLaws.{Went, act_stops, breaks_of, give_stops, halted, idle_done, none_done, react_done, react_stops, react_stops_first, turns_of, went_first, went_on}
+use Rattle.peers_engine.proofs.HaltLaws.{Went, act_stops, breaks_at, breaks_of, give_stops, halt_ended, halted, idle_done, none_done, react_done, react_stops, react_stops_first, turns_of, walk_of, went_first, went_on}
 
 -- ---- the actions so far, and one more
 
@@ -35,7 +35,7 @@ AreDone s acts given e old new =
     (answers : List (Event × List Action)) × (out : List ℕ) × Acts s acts answers out e × (given ≡ asked answers) × AreWritten old new out
 
 -- the same, up to an error
-abbrev pub AreStopped : ShardsState → Worker → List Action → EngineError → SessionState → SeatState → Written → Written → Type 0
+abbrev pub AreStopped : ShardsState → Worker → List Action → EngineError → KeptSession → SeatState → Written → Written → Type 0
 AreStopped shards s acts error e seat old new =
     (answers : List (Event × List Action)) × (out : List ℕ) × Stops shards s acts error answers out e seat × AreWritten old new out
 
@@ -60,7 +60,7 @@ IsNotGiven s now answer e error = (event : Event) × (answer ≡ Some event) × 
 
 -- the next action fails
 pub next_fails : (shards : ShardsState) (s mid : Worker) (seat : SeatState) (all before rest given : List Action) (act : Action) (error : EngineError) (a b d : Written)
-    → all ≡ before ++ (act ∷ rest) → AreDone s before given mid a b → OneFailsBy shards mid seat act b d error → AreStopped shards s all error mid.session.session seat a d
+    → all ≡ before ++ (act ∷ rest) → AreDone s before given mid a b → OneFailsBy shards mid seat act b d error → AreStopped shards s all error mid.session seat a d
 next_fails shards s mid seat all before rest given act error a b d is (answers, out, acted, kept, appended) (last, fails, more) = (
   answers,
   out ++ last,
@@ -71,7 +71,7 @@ next_fails shards s mid seat all before rest given act error a b d is (answers, 
 -- the session doesn't go on after the answer of the next action
 pub give_fails : (shards : ShardsState) (s mid : Worker) (e : KeptSession) (seat : SeatState) (all before rest given : List Action) (act : Action) (answer : Option Event) (error : EngineError) (a b d : Written)
     → all ≡ before ++ (act ∷ rest) → AreDone s before given mid a b → OneDoneBy mid seat act b d answer → IsNotGiven mid.session mid.now answer e error
-    → AreStopped shards s all error e.session seat a d
+    → AreStopped shards s all error e seat a d
 give_fails shards s mid e seat all before rest given act answer error a b d is (answers, out, acted, kept, appended) (bytes, done, more) (event, some, going, stuck) =
     let stops = give_stops shards s mid e seat all before rest act answer event error answers out bytes is acted done some going stuck in
     (stops.0, out ++ bytes, stops.1, writes_then a b d out bytes appended more)
@@ -81,8 +81,19 @@ give_fails shards s mid e seat all before rest given act answer error a b d is (
 abbrev pub HasReacted : Worker → Event → Worker → Written → Written → Type 0
 HasReacted s event e old new = (out : List ℕ) × Reacts s event out e × AreWritten old new out
 
-abbrev pub HasHalted : ShardsState → Worker → Event → SessionState → SeatState → Written → Written → EngineError → Type 0
+abbrev pub HasHalted : ShardsState → Worker → Event → KeptSession → SeatState → Written → Written → EngineError → Type 0
 HasHalted shards s event e seat old new error = (out : List ℕ) × Halts shards s event error out e seat × AreWritten old new out
+
+-- the session moved by the event and its answers
+pub taken_moves : (s e : Worker) (event : Event) (a b : Written) → HasReacted s event e a b → Moves s.now event s.session e.session
+taken_moves s e event a b (out, reacts, appended) = walk_of s e event out reacts
+
+-- after an error it is ended
+pub taken_breaks : (shards : ShardsState) (s : Worker) (e new : KeptSession) (seat : SeatState) (event : Event) (error : EngineError) (a b : Written) → HasHalted shards s event e seat a b error → IsOver e new → BreaksAt s.now event s.session new
+taken_breaks shards s e new seat event error a b (out, halts, appended) is = breaks_at shards s e new seat event error out halts is
+
+pub taken_stopped : (shards : ShardsState) (s : Worker) (e new : KeptSession) (seat : SeatState) (event : Event) (error : EngineError) (a b : Written) → HasHalted shards s event e seat a b error → IsOver e new → HasHalted shards s event new seat a b error
+taken_stopped shards s e new seat event error a b (out, halts, appended) is = (out, halt_ended shards s e new seat event error out halts is, appended)
 
 -- so far, with the bytes that were written
 abbrev pub HasWent : Worker → List Action → List Action → List Action → Worker → Written → Written → Type 0
@@ -96,12 +107,12 @@ next_went s mid e acts done given more a b d (out, went, appended) (answers, res
     (out ++ rest, went_on s mid e acts done given more answers out rest went acted kept, writes_then a b d out rest appended then)
 
 -- an error among what the event asked for
-pub first_fails : (shards : ShardsState) (s : Worker) (mid : KeptSession) (e : SessionState) (seat : SeatState) (event : Event) (acts : List Action) (error : EngineError) (a b : Written)
+pub first_fails : (shards : ShardsState) (s : Worker) (mid e : KeptSession) (seat : SeatState) (event : Event) (acts : List Action) (error : EngineError) (a b : Written)
     → Steps s.session s.now event acts mid → AreStopped shards (stands s mid s.seat) acts error e seat a b → HasHalted shards s event e seat a b error
 first_fails shards s mid e seat event acts error a b taken (answers, out, stops, appended) = (out, react_stops_first shards s mid e seat event acts error answers out taken stops, appended)
 
 -- an error among what the answers asked for
-pub later_fails : (shards : ShardsState) (s next : Worker) (mid : KeptSession) (e : SessionState) (seat : SeatState) (event : Event) (acts done given : List Action) (error : EngineError) (a b d : Written)
+pub later_fails : (shards : ShardsState) (s next : Worker) (mid e : KeptSession) (seat : SeatState) (event : Event) (acts done given : List Action) (error : EngineError) (a b d : Written)
     → Steps s.session s.now event acts mid → HasWent (stands s mid s.seat) acts done given next a b → AreStopped shards next given error e seat b d → HasHalted shards s event e seat a d error
 later_fails shards s next mid e seat event acts done given error a b d taken (out, went, appended) (more, rest, stops, then) =
     (out ++ rest, react_stops shards s next mid e seat event acts done given error more out rest taken went stops, writes_then a b d out rest appended then)
@@ -171,12 +182,12 @@ abbrev pub HasTurned : Type 0 → Type 0 → Worker → Worker → Option (List 
 HasTurned at_end untouched s e from to a b =
     (received : Option Event) × (read out : List ℕ) × IsRead at_end received read × TakesTurn untouched s received out e × Consumes from to read × AreWritten a b out
 
-abbrev pub HasStopped : ShardsState → Type 0 → Type 0 → Worker → SessionState → SeatState → Option (List ℕ) → Option (List ℕ) → Written → Written → EngineError → Type 0
+abbrev pub HasStopped : ShardsState → Type 0 → Type 0 → Worker → KeptSession → SeatState → Option (List ℕ) → Option (List ℕ) → Written → Written → EngineError → Type 0
 HasStopped shards at_end untouched s e seat from to a b error =
     (received : Option Event) × (read out : List ℕ) × IsRead at_end received read × StopsTurn shards untouched s received error out e seat × Consumes from to read × AreWritten a b out
 
 -- the event that was read is received, up to an error
-pub read_fails : (shards : ShardsState) {at_end : Type 0} (s : Worker) (e : SessionState) (seat : SeatState) (found : Option Event) (event : Event) (error : EngineError) (from to : Option (List ℕ)) (a b : Written)
+pub read_fails : (shards : ShardsState) {at_end : Type 0} (s : Worker) (e : KeptSession) (seat : SeatState) (found : Option Event) (event : Event) (error : EngineError) (from to : Option (List ℕ)) (a b : Written)
     → found ≡ Some event → ((read : List ℕ) × IsRead at_end found read × Consumes from to read) → HasHalted shards s event e seat a b error
     → (received : Option Event) × (read out : List ℕ) × IsRead at_end received read × HaltsAt shards s received error out e seat × Consumes from to read × AreWritten a b out
 read_fails shards {at_end} s e seat found event error from to a b is (read, reads, consumed) (out, halts, appended) =
@@ -189,7 +200,7 @@ pub then_done : {at_end untouched : Type 0} (s mid e : Worker) (event : Event) (
 then_done s mid e event from to a b d is (idles, silent) (received, read, out, reads, receives, consumed, more) =
     (received, read, out, reads, inr (mid, subst (λ (x : Event). Idles s x mid) is idles, receives), consumed, writes_then a b d [] out silent more)
 
-pub then_fails : (shards : ShardsState) {at_end untouched : Type 0} (s mid : Worker) (e : SessionState) (seat : SeatState) (event : Event) (error : EngineError) (from to : Option (List ℕ)) (a b d : Written) → event ≡ first_event (state_of s.session.session.phase) → HasIdled s event mid a b
+pub then_fails : (shards : ShardsState) {at_end untouched : Type 0} (s mid : Worker) (e : KeptSession) (seat : SeatState) (event : Event) (error : EngineError) (from to : Option (List ℕ)) (a b d : Written) → event ≡ first_event (state_of s.session.session.phase) → HasIdled s event mid a b
     → ((received : Option Event) × (read out : List ℕ) × IsRead at_end received read × HaltsAt shards mid received error out e seat × Consumes from to read × AreWritten b d out)
     → HasStopped shards at_end untouched s e seat from to a d error
 then_fails shards s mid e seat event error from to a b d is (idles, silent) (received, read, out, reads, halts, consumed, more) =
@@ -200,7 +211,7 @@ pub alone_done : {at_end untouched : Type 0} (s e : Worker) (event : Event) (kno
 alone_done s e event known a b is (out, reacts, appended) still =
     (None, [], out, refl, inl (still, refl, subst (λ (x : Event). Reacts s x out e) is reacts), Consumes-nil known, appended)
 
-pub alone_fails : (shards : ShardsState) {at_end untouched : Type 0} (s : Worker) (e : SessionState) (seat : SeatState) (event : Event) (error : EngineError) (known : Option (List ℕ)) (a b : Written) → event ≡ first_event (state_of s.session.session.phase) → HasHalted shards s event e seat a b error
+pub alone_fails : (shards : ShardsState) {at_end untouched : Type 0} (s : Worker) (e : KeptSession) (seat : SeatState) (event : Event) (error : EngineError) (known : Option (List ℕ)) (a b : Written) → event ≡ first_event (state_of s.session.session.phase) → HasHalted shards s event e seat a b error
     → untouched → HasStopped shards at_end untouched s e seat known known a b error
 alone_fails shards s e seat event error known a b is (out, halts, appended) still =
     (None, [], out, refl, inl (still, refl, subst (λ (x : Event). Halts shards s x error out e seat) is halts), Consumes-nil known, appended)
@@ -209,10 +220,10 @@ alone_fails shards s e seat event error known a b is (out, halts, appended) stil
 pub turned : {at_end untouched : Type 0} (s e : Worker) (from to : Option (List ℕ)) (a b : Written) → HasTurned at_end untouched s e from to a b → Turns s.now s.session e.session
 turned s e from to a b (received, read, out, reads, all, consumed, appended) = turns_of s e received out all
 
-pub broken : (shards : ShardsState) {at_end untouched : Type 0} (s : Worker) (e new : SessionState) (seat : SeatState) (error : EngineError) (from to : Option (List ℕ)) (a b : Written) → HasStopped shards at_end untouched s e seat from to a b error → new ≡ ended e → Breaks s.now s.session new
+pub broken : (shards : ShardsState) {at_end untouched : Type 0} (s : Worker) (e new : KeptSession) (seat : SeatState) (error : EngineError) (from to : Option (List ℕ)) (a b : Written) → HasStopped shards at_end untouched s e seat from to a b error → IsOver e new → Breaks s.now s.session new
 broken shards s e new seat error from to a b (received, read, out, reads, stops, consumed, appended) is = breaks_of shards s e new seat received error out stops is
 
-pub stopped : (shards : ShardsState) {at_end untouched : Type 0} (s : Worker) (e new : SessionState) (seat : SeatState) (error : EngineError) (from to : Option (List ℕ)) (a b : Written) → HasStopped shards at_end untouched s e seat from to a b error → new ≡ ended e → HasStopped shards at_end untouched s new seat from to a b error
+pub stopped : (shards : ShardsState) {at_end untouched : Type 0} (s : Worker) (e new : KeptSession) (seat : SeatState) (error : EngineError) (from to : Option (List ℕ)) (a b : Written) → HasStopped shards at_end untouched s e seat from to a b error → IsOver e new → HasStopped shards at_end untouched s new seat from to a b error
 stopped shards s e new seat error from to a b (received, read, out, reads, stops, consumed, appended) is =
     (received, read, out, reads, halted shards s e new seat received error out stops is, consumed, appended)
 
@@ -238,6 +249,14 @@ pub over_stops : {X : Type 0} (P Q : Type 0) (phase : Phase) (event : Event) (re
 over_stops {X} P Q phase event result error is refused err =
     let stops = refused refusals.Ended (λ same. cc same) (refuses_over phase event is) in
     (ap (λ (r : Result X EngineError). error_of error r) (sym err ∙ stops.0), stops.1, stops.2)
+
+-- a session that is over receives no event
+pub none_once_over : {X : Type 0} (P Q : Type 0) (phase : Phase) (event : Event) (result : Result X EngineError) (x : X) → state_of phase ≡ states.Ended
+    → ((why : SessionError) → why ≢ refusals.Memory → Refuses phase event why → (result ≡ Err (errors.Session why)) × P × Q) → result ≡ Ok x → ⊥
+none_once_over {X} P Q phase event result x is refused ok =
+    let stops = refused refusals.Ended (λ same. cc same) (refuses_over phase event is) in
+    let both : Ok x ≡ Err (errors.Session refusals.Ended) = sym ok ∙ stops.0 in
+    cc both
 
 -- the call on which a turn stops is refused for that cause, and nothing else happens
 pub stops_with_cause : {X : Type 0} (P Q : Type 0) (result : Result X EngineError) (error : EngineError) (why : SessionError)

@@ -37,6 +37,14 @@ DoneBy w act out answer seat = Done (is_staying w.session.manner) w.number w.now
 abbrev pub FailsBy : ShardsState → Worker → Action → EngineError → List ℕ → SeatState → Type 0
 FailsBy shards w act error out seat = Fails shards (is_staying w.session.manner) w.number w.now w.session.session w.seat act error out seat
 
+-- the session is over, and has heard and counted what `s` did
+abbrev pub IsOver : KeptSession → KeptSession → Type 0
+IsOver s e = (e.session ≡ ended s.session) × (e.heard ≡ s.heard) × (e.counts ≡ s.counts)
+
+-- once it is over, the session is as `s` would be, and it has heard and counted what `s` did
+abbrev pub EndsAlike : KeptSession → KeptSession → Type 0
+EndsAlike s e = (ended e.session ≡ ended s.session) × (e.heard ≡ s.heard) × (e.counts ≡ s.counts)
+
 -- The session receives an answer, if there is one, as the one event of a run. A session that is over receives nothing.
 abbrev pub IsGivenIn : State → KeptSession → ℕ → Event → List (Event × List Action) → KeptSession → Type 0
 IsGivenIn states.Ended s now event steps e = (steps ≡ []) × (e ≡ s)
@@ -76,7 +84,7 @@ IsRefused s event error = (why : SessionError) × Refuses s.phase event why × (
 -- for.
 abbrev pub DoesNotGoOn : KeptSession → ℕ → Event → EngineError → KeptSession → Type 0
 DoesNotGoOn s now event error e =
-    (IsRefused s.session event error × (e.session ≡ ended s.session))
+    (IsRefused s.session event error × IsOver s e)
     ⊎ ((acts : List Action) × Steps s now event acts e × (error ≡ errors.Memory))
 
 -- Why the first of the remaining actions was the last, what was written for it, and how it left the seat: it failed; or
@@ -93,8 +101,8 @@ abbrev pub IsLost : List (Event × List Action) → EngineError → List ℕ →
 IsLost answers error out = (answers ≢ []) × (error ≡ errors.Memory) × (out ≡ [])
 
 -- The actions up to one were performed, and then an error came: what was written, the session, except that it is then
--- over, and the seat as it is then.
-abbrev pub Stops : ShardsState → Worker → List Action → EngineError → List (Event × List Action) → List ℕ → SessionState → SeatState → Type 0
+-- over, with what it has heard and counted, and the seat as it is then.
+abbrev pub Stops : ShardsState → Worker → List Action → EngineError → List (Event × List Action) → List ℕ → KeptSession → SeatState → Type 0
 Stops shards w acts error answers out e seat =
     (before rest : List Action)
     × (first last : List ℕ)
@@ -103,4 +111,4 @@ Stops shards w acts error answers out e seat =
     × Acts w before answers first mid
     × (IsCut shards mid rest error last seat ⊎ (IsLost answers error last × (seat ≡ mid.seat)))
     × (out ≡ first ++ last)
-    × (ended e ≡ ended mid.session.session)
+    × EndsAlike mid.session e

@@ -1,8 +1,7 @@
 -- The calls on tables that perform a session's actions. No clause says which cell a call finds behind the lock: they
 -- say what the call does to some cell of its table, which is sound and keeps its batches. A call that makes an event of the
--- table leaves its receipt at the seat, with the answer. A call that is refused for a cause other than memory is counted by the
--- seat. If the table is full, has nothing to copy, refuses an acknowledgement as ahead or finds a batch to be the latest one, that
--- answer is then at the seat. Only a call for which memory ran out leaves the seat as it was.
+-- table leaves its receipt at the seat, with the answer. Any other call leaves at the seat which table was called for which session,
+-- what was asked, and the answer. Only a call for which memory ran out leaves the seat as it was.
 use Rattle.std.specs.Prelude.{◌≡◌, ◌⊎◌, ℕ, ◌==◌, max, Bool, true, false, List, Option, Result, Ok, Err, Some, None, slice_get}
 use Rattle.std.specs.List.{list_any}
 use Rattle.table_types.specs.declared.update.Update.{Update}
@@ -30,8 +29,7 @@ use Rattle.table_shards.specs.Rounds.{ShardsState}
 use Rattle.table_shards.specs.declared.errors.ShardError.{ShardError}
 use Rattle.table_shards.specs.declared.errors.ShardError.TheVariants as errors
 use Rattle.table_shards.specs.Holding.{Holds, Looks, Settles, receipted}
-use Rattle.table_shards.specs.Refusals.{needs_none, no_memory_to_ack, no_memory_to_close, no_memory_to_copy, no_memory_to_learn, no_memory_to_open}
-use Rattle.table_shards.specs.Noting.{Notes, if_ahead, if_full, if_latest, if_nothing}
+use Rattle.table_shards.specs.Noting.{Notes, if_settled, if_unclosed, if_uncopied, if_unlearned, if_unopened, if_untaken}
 use Rattle.table_shards.specs.Receipts.{SeatState}
 use Rattle.session_core.specs.declared.event.Event.{Event}
 use Rattle.session_core.specs.declared.event.Event.TheVariants as answers
@@ -46,8 +44,8 @@ IsSoundTable c = IsSoundCell c × Kept c
 abbrev pub CallsLearnOn : CellState → ℕ → ℕ → SeatState → Update → Result Reply (ShardError LearnError) → SeatState → Type 0
 CallsLearnOn c n now s u answer t =
     IsSoundTable c × (e : CellState)
-    × Notes (λ mid. Holds no_memory_to_learn (λ x r y. Learns x n u now r y) (λ reply. receipted u.table c s (events.Learn n u now) (replies.Learn reply)) u.table c s answer e mid)
-    u.table n (events_of c) (if_full u.number now answer) t
+    × Notes (λ mid. Holds (λ x r y. Learns x n u now r y) (λ reply. receipted u.table c s (events.Learn n u now) (replies.Learn reply)) u.table c s answer e mid)
+    u.table n (events_of c) (if_unlearned u.number now answer) t
 
 -- the most updates that a turn copies at once
 abbrev pub most_copied : ℕ
@@ -56,25 +54,27 @@ most_copied = 512
 abbrev pub CallsCopyOn : CellState → ℕ → ℕ → SeatState → ℕ → CopyKind → Result (List Update) (ShardError CopyError) → SeatState → Type 0
 CallsCopyOn c n now s table kind answer t =
     IsSoundTable c × (e : CellState)
-    × Notes (λ mid. Holds no_memory_to_copy (λ x r y. Copies x n kind most_copied now r y) (λ batch. receipted table c s (events.Copy n kind most_copied now) (replies.Copy batch)) table c s answer e mid)
-    table n (events_of c) (if_nothing kind most_copied now answer) t
+    × Notes (λ mid. Holds (λ x r y. Copies x n kind most_copied now r y) (λ batch. receipted table c s (events.Copy n kind most_copied now) (replies.Copy batch)) table c s answer e mid)
+    table n (events_of c) (if_uncopied kind most_copied now answer) t
 
 abbrev pub CallsAck : ℕ → SeatState → ℕ → ℕ → Result Settled (ShardError AckError) → SeatState → Type 0
 CallsAck n s table number answer t =
     (c : CellState) × IsSoundTable c × (e : CellState)
-    × Notes (λ mid. Holds no_memory_to_ack (λ x r y. Acknowledges x n number r y) (λ settled. receipted table c s (events.Ack n number) (replies.Ack settled)) table c s answer e mid)
-    table n (events_of c) (if_ahead number answer) t
+    × Notes (λ mid. Holds (λ x r y. Acknowledges x n number r y) (λ settled. receipted table c s (events.Ack n number) (replies.Ack settled)) table c s answer e mid)
+    table n (events_of c) (if_untaken number answer) t
 
 -- the session is opened with this version
 abbrev pub CallsOpen : ℕ → Version → SeatState → ℕ → Result (Unit {0}) (ShardError OpenError) → SeatState → Type 0
 CallsOpen n version s table answer t =
     (c : CellState) × IsSoundTable c × (e : CellState)
-    × Holds no_memory_to_open (λ x r y. Opens x n version r y) (λ done. receipted table c s (events.Open n version) replies.Open) table c s answer e t
+    × Notes (λ mid. Holds (λ x r y. Opens x n version r y) (λ done. receipted table c s (events.Open n version) replies.Open) table c s answer e mid)
+    table n (events_of c) (if_unopened version answer) t
 
 abbrev pub CallsClose : ℕ → SeatState → ℕ → Result (Unit {0}) (ShardError CloseError) → SeatState → Type 0
 CallsClose n s table answer t =
     (c : CellState) × IsSoundTable c × (e : CellState)
-    × Holds no_memory_to_close (λ x r y. Closes x n r y) (λ done. receipted table c s (events.Close n) replies.Close) table c s answer e t
+    × Notes (λ mid. Holds (λ x r y. Closes x n r y) (λ done. receipted table c s (events.Close n) replies.Close) table c s answer e mid)
+    table n (events_of c) (if_unclosed answer) t
 
 -- ---- what they do
 
@@ -120,7 +120,7 @@ IsReopened n version s table t = (mid : SeatState) × CallsClose n s table (Ok t
 abbrev pub IsSettled : ℕ → SeatState → List Update → SeatState → Type 0
 IsSettled n s batch t =
     (u : Update) × (slice_get batch 0 ≡ Some u) × (c : CellState) × IsSoundTable c × (e : CellState)
-    × Notes (λ mid. Looks needs_none (λ x r y. Settles x n batch r y) u.table c s (Ok tt) e mid) u.table n (events_of c) (if_latest (Ok tt)) t
+    × Notes (λ mid. Looks (λ x r y. Settles x n batch r y) u.table c s (Ok tt) e mid) u.table n (events_of c) (if_settled (Ok tt)) t
 
 -- ---- what their answers mean to a turn
 
@@ -170,7 +170,7 @@ settle_end (Err why) = Err faults.Strange
 abbrev pub IsMissing : ShardsState → ℕ → Type 0
 IsMissing shards table = list_any (λ c. id_of c == table) shards.cells ≡ false
 
--- the table is missing, and the seat stays as it was; or the call on it is refused, and the seat counts that
+-- the table is missing, and the seat stays as it was; or the call on it is refused, and the seat keeps that
 abbrev pub IsBarred : ShardsState → ℕ → SeatState → SeatState → Type 0 → Type 0
 IsBarred shards table s t refused = (IsMissing shards table × (t ≡ s)) ⊎ refused
 
@@ -215,7 +215,7 @@ abbrev pub RefusesBatch : ℕ → SeatState → List Update → ℕ → SeatStat
 RefusesBatch n s batch table t =
     (answer : Result (Unit {0}) (ShardError StrangeBatch)) × (settle_end answer ≡ Err faults.Strange)
     × (c : CellState) × IsSoundTable c × (e : CellState)
-    × Notes (λ mid. Looks needs_none (λ x r y. Settles x n batch r y) table c s answer e mid) table n (events_of c) (if_latest answer) t
+    × Notes (λ mid. Looks (λ x r y. Settles x n batch r y) table c s answer e mid) table n (events_of c) (if_settled answer) t
 
 -- the batch has no update, and so no table; or it isn't the session's latest one in the table of its first
 abbrev pub IsUnsettled : ShardsState → ℕ → SeatState → List Update → SeatState → Type 0

@@ -1,14 +1,21 @@
 -- How a session's actions are performed, and what is written for them.
-use Rattle.std.specs.Prelude.{◌≡◌, ◌⊎◌, ◌<◌, ℕ, Bool, List, [], ◌∷◌, length, take, Option, Some, None, Ok, Err, slice_get}
+use Rattle.std.specs.Prelude.{◌≡◌, ◌⊎◌, ◌<◌, ◌+◌, ◌%◌, ◌^◌, ℕ, Bool, List, [], ◌∷◌, length, take, Option, Some, None, Ok, Err, slice_get}
 use Rattle.peers_devices.specs.Writing.{AreWritten, Written}
 use Rattle.table_types.specs.declared.update.Update.{Update}
-use Rattle.table_types.specs.declared.copies.Settled.{Settled}
 use Rattle.table_types.specs.Batches.{IsBatchFor}
 use Rattle.peers_msg.specs.declared.control.ErrorKind.{ErrorKind}
 use Rattle.peers_msg.specs.Spelling.{error_type}
 use Rattle.table_cell.specs.Histories.{CellState}
-use Rattle.table_cell.specs.declared.errors.AckError.TheVariants as acks
-use Rattle.table_shards.specs.declared.errors.ShardError.TheVariants as shards
+use Rattle.table_cell.specs.declared.errors.AckError.{AckError}
+use Rattle.table_cell.specs.declared.errors.CloseError.{CloseError}
+use Rattle.table_cell.specs.declared.errors.CopyError.{CopyError}
+use Rattle.table_cell.specs.declared.errors.LearnError.{LearnError}
+use Rattle.table_cell.specs.declared.errors.OpenError.{OpenError}
+use Rattle.table_cell.specs.declared.errors.StrangeBatch.{StrangeBatch}
+use Rattle.table_shards.specs.declared.answers.Answer.{Answer}
+use Rattle.table_shards.specs.declared.answers.Answer.TheVariants as answers
+use Rattle.table_shards.specs.declared.answers.Answered.{Answered}
+use Rattle.table_shards.specs.declared.errors.ShardError.{ShardError}
 use Rattle.table_shards.specs.Receipts.{SeatState}
 use Rattle.table_shards.specs.Rounds.{ShardsState}
 use Rattle.known_state.specs.Known.{KnownState}
@@ -18,7 +25,7 @@ use Rattle.session_core.specs.declared.action.Action.TheVariants as actions
 use Rattle.session_core.specs.declared.event.Event.{Event}
 use Rattle.session_core.specs.declared.event.Event.TheVariants as events
 use Rattle.session_core.specs.Sessions.{SessionState}
-use Rattle.peers_engine.specs.Calls.{CallsAck, CallsClose, IsCopied, IsLearned, IsMissing, IsReopened, IsSettled, IsUncopied, IsUnlearned, IsUnopened, IsUnsettled, IsUntaken, moment_at, opened_with}
+use Rattle.peers_engine.specs.Calls.{CallsClose, IsCopied, IsLearned, IsMissing, IsReopened, IsSettled, IsTaken, IsUncopied, IsUnlearned, IsUnopened, IsUnsettled, IsUntaken, moment_at, most_copied, opened_with}
 use Rattle.peers_engine.specs.declared.errors.EngineError.{EngineError}
 use Rattle.peers_engine.specs.declared.errors.EngineError.TheVariants as errors
 
@@ -31,9 +38,7 @@ error_text kind = 1 ∷ (error_type kind ∷ [])
 abbrev pub Done : Bool → ℕ → ℕ → SessionState → SeatState → Action → List ℕ → Option Event → SeatState → Type 0
 Done stays n now x s (actions.Send bytes) out answer t = (out ≡ bytes) × (answer ≡ None) × (t ≡ s)
 Done stays n now x s (actions.Learn u) out answer t = (out ≡ []) × (answer ≡ None) × IsLearned stays n now s u t
-Done stays n now x s (actions.Ack table number) out answer t = (out ≡ [])
-    × (((settled : Settled) × (answer ≡ Some (events.Settled table settled)) × CallsAck n s table number (Ok settled) t)
-    ⊎ ((answer ≡ Some (events.Refused table)) × CallsAck n s table number (Err (shards.Cell acks.AckAhead)) t))
+Done stays n now x s (actions.Ack table number) out answer t = (out ≡ []) × (event : Event) × (answer ≡ Some event) × IsTaken n s table number t event
 Done stays n now x s (actions.Reopen table) out answer t = (out ≡ []) × (answer ≡ None) × IsReopened n (opened_with x.version) s table t
 Done stays n now x s (actions.Copy table kind) out answer t = (out ≡ []) × (event : Event) × (answer ≡ Some event) × IsCopied stays n now s table kind t event
 Done stays n now x s (actions.Teach batch) out answer t =
@@ -48,7 +53,7 @@ IsRefusal left cause errors.Memory = left
 IsRefusal left cause errors.Strange = cause
 IsRefusal left cause error = ⊥
 
--- Why an action of session `n`, which is `x`, is `Strange`: its table is missing, or refuses it, which the seat counts; or the
+-- Why an action of session `n`, which is `x`, is `Strange`: its table is missing, or refuses it, which the seat keeps; or the
 -- batch of a lesson isn't one for the session's tables. On a cell `c`, a row is learned and a batch copied at the moment `at c`.
 abbrev pub IsStrange : ShardsState → (CellState → ℕ) → ℕ → SessionState → SeatState → Action → SeatState → Type 0
 IsStrange shards at n x s (actions.Learn u) t = IsUnlearned shards at n s u t
@@ -70,6 +75,28 @@ IsUnasked shards x (actions.Teach batch) =
     (IsBatchFor x.known.roster batch → ⊥)
     ⊎ ((slice_get batch 0 ≡ None) ⊎ ((u : Update) × (slice_get batch 0 ≡ Some u) × IsMissing shards u.table))
 IsUnasked shards x act = ⊥
+
+-- the answer at a seat is this one of the table, for session `n`
+abbrev pub IsAnswerOf : ℕ → ℕ → Answer → Answered → Type 0
+IsAnswerOf table n answer a = (a.table ≡ table) × (a.session ≡ n) × (a.answer ≡ answer)
+
+-- The answer at a seat is that the action's table refuses what the action asks for, with the error. A table that is reopened is asked to
+-- close the session and then to open it; that of a lesson is asked whether the batch is the session's latest one.
+abbrev pub IsRefusalFor : (CellState → ℕ) → ℕ → SessionState → Action → Answered → Type 0
+IsRefusalFor at n x (actions.Learn u) a = (c : CellState) × (error : ShardError LearnError) × IsAnswerOf u.table n (answers.Unlearned u.number (at c) error) a
+IsRefusalFor at n x (actions.Ack table number) a = (error : ShardError AckError) × IsAnswerOf table n (answers.Untaken number error) a
+IsRefusalFor at n x (actions.Reopen table) a =
+    ((error : ShardError CloseError) × IsAnswerOf table n (answers.Unclosed error) a)
+    ⊎ ((error : ShardError OpenError) × IsAnswerOf table n (answers.Unopened (opened_with x.version) error) a)
+IsRefusalFor at n x (actions.Copy table kind) a =
+    (c : CellState) × (error : ShardError CopyError) × IsAnswerOf table n (answers.Uncopied kind most_copied (at c) error) a
+IsRefusalFor at n x (actions.Teach batch) a =
+    (u : Update) × (slice_get batch 0 ≡ Some u) × (error : ShardError StrangeBatch) × IsAnswerOf u.table n (answers.Unsettled error) a
+IsRefusalFor at n x act a = ⊥
+
+-- the seat has one more answer than `s`, and the latest one is that the action's table refuses it
+abbrev pub KeepsRefusal : (CellState → ℕ) → ℕ → SessionState → SeatState → Action → SeatState → Type 0
+KeepsRefusal at n x s act t = (a : Answered) × (t.answers ≡ (s.answers + 1) % 2 ^ 64) × (t.latest ≡ Some a) × IsRefusalFor at n x act a
 
 -- an action that calls a table; a lesson calls it to test that its batch is the session's latest one
 abbrev pub IsAtTable : Action → Type 0

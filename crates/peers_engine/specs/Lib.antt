@@ -3,5 +3,4 @@ pub mod Doing
 pub mod Reading
 pub mod Acting
 pub mod Turns
-pub mod Ticks
 pub mod Writing

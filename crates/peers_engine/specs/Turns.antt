@@ -8,13 +8,14 @@ use Rattle.session_core.specs.declared.event.Event.{Event}
 use Rattle.session_core.specs.declared.event.Event.TheVariants as events
 use Rattle.session_core.specs.declared.state.State.{State}
 use Rattle.session_core.specs.declared.state.State.TheVariants as states
-use Rattle.session_core.specs.Keeping.{KeptSession, Steps, Walks}
-use Rattle.session_core.specs.Sessions.{SessionState, ended, state_of}
+use Rattle.session_core.specs.Keeping.{KeptSession, Steps}
+use Rattle.session_core.specs.Happenings.{Walks}
+use Rattle.session_core.specs.Sessions.{state_of}
 use Rattle.table_shards.specs.Receipts.{SeatState}
 use Rattle.table_shards.specs.Rounds.{ShardsState}
 use Rattle.peers_engine.specs.declared.errors.EngineError.{EngineError}
 use Rattle.peers_engine.specs.Reading.{IsUnread}
-use Rattle.peers_engine.specs.Acting.{Acts, IsRefused, Stops, Worker, asked, stands}
+use Rattle.peers_engine.specs.Acting.{Acts, EndsAlike, IsOver, IsRefused, Stops, Worker, asked, stands}
 
 -- the event with which a turn begins: it opens a new session, and lets any other teach
 abbrev pub first_event : State → Event
@@ -23,13 +24,20 @@ first_event state = events.Turn
 
 -- ---- how the session moved
 
--- it moved by events at this moment, of which the turn's first one is the first
+-- it moved by events at this moment, of which this is the first
+abbrev pub Moves : ℕ → Event → KeptSession → KeptSession → Type 0
+Moves now event s e = (acts : List Action) × (steps : List (Event × List Action)) × Walks now s ((event, acts) ∷ steps) e
+
+-- so it moved in a turn
 abbrev pub Turns : ℕ → KeptSession → KeptSession → Type 0
-Turns now s e = (acts : List Action) × (steps : List (Event × List Action)) × Walks now s ((first_event (state_of s.session.phase), acts) ∷ steps) e
+Turns now s e = Moves now (first_event (state_of s.session.phase)) s e
 
 -- it moved by such events or by none, and was then ended
-abbrev pub Breaks : ℕ → KeptSession → SessionState → Type 0
-Breaks now s e = (e ≡ ended s.session) ⊎ ((mid : KeptSession) × Turns now s mid × (e ≡ ended mid.session))
+abbrev pub BreaksAt : ℕ → Event → KeptSession → KeptSession → Type 0
+BreaksAt now event s e = IsOver s e ⊎ ((mid : KeptSession) × Moves now event s mid × IsOver mid e)
+
+abbrev pub Breaks : ℕ → KeptSession → KeptSession → Type 0
+Breaks now s e = BreaksAt now (first_event (state_of s.session.phase)) s e
 
 -- ---- what was done
 
@@ -44,9 +52,9 @@ Reacts w event out e =
     × Acts (stands w mid w.seat) (acts ++ asked answers) answers out e
 
 -- the session refuses the event; or receives it, and what it asks for is performed up to an error
-abbrev pub Halts : ShardsState → Worker → Event → EngineError → List ℕ → SessionState → SeatState → Type 0
+abbrev pub Halts : ShardsState → Worker → Event → EngineError → List ℕ → KeptSession → SeatState → Type 0
 Halts shards w event error out e seat =
-    (IsRefused w.session.session event error × (out ≡ []) × (ended e ≡ ended w.session.session) × (seat ≡ w.seat))
+    (IsRefused w.session.session event error × (out ≡ []) × EndsAlike w.session e × (seat ≡ w.seat))
     ⊎ ((acts : List Action)
     × (answers : List (Event × List Action))
     × (mid : KeptSession)
@@ -76,8 +84,8 @@ abbrev pub Receives : Worker → Option Event → List ℕ → Worker → Type 0
 Receives w None out e = (out ≡ []) × (e ≡ w)
 Receives w (Some event) out e = Reacts w event out e
 
-abbrev pub HaltsAt : ShardsState → Worker → Option Event → EngineError → List ℕ → SessionState → SeatState → Type 0
-HaltsAt shards w None error out e seat = IsUnread error × (out ≡ []) × (ended e ≡ ended w.session.session) × (seat ≡ w.seat)
+abbrev pub HaltsAt : ShardsState → Worker → Option Event → EngineError → List ℕ → KeptSession → SeatState → Type 0
+HaltsAt shards w None error out e seat = IsUnread error × (out ≡ []) × EndsAlike w.session e × (seat ≡ w.seat)
 HaltsAt shards w (Some event) error out e seat = Halts shards w event error out e seat
 
 -- A turn gives the session its first event and leaves the reader alone; or that event leaves nothing to do, and the
@@ -88,7 +96,7 @@ TakesTurn untouched w received out e =
     ⊎ ((mid : Worker) × Idles w (first_event (state_of w.session.session.phase)) mid × Receives mid received out e)
 
 -- the same, up to an error
-abbrev pub StopsTurn : ShardsState → Type 0 → Worker → Option Event → EngineError → List ℕ → SessionState → SeatState → Type 0
+abbrev pub StopsTurn : ShardsState → Type 0 → Worker → Option Event → EngineError → List ℕ → KeptSession → SeatState → Type 0
 StopsTurn shards untouched w received error out e seat =
     (untouched × (received ≡ None) × Halts shards w (first_event (state_of w.session.session.phase)) error out e seat)
     ⊎ ((mid : Worker) × Idles w (first_event (state_of w.session.session.phase)) mid × HaltsAt shards mid received error out e seat)

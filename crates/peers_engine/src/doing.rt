@@ -22,7 +22,7 @@ use crate::context::Context;
 use crate::errors::EngineError;
 use crate::gate::{Gate, Stage};
 use crate::tables::{acknowledge, copy, learn, opened_with, reopen, settle};
-use crate::writing::{PiecesError, write_counted, write_pieces_counted};
+use crate::writing::{PiecesError, write_lesson_counted, write_pieces_counted};
 use known_state::Known;
 use peers_devices::{Faults, Writes};
 use peers_msg::ErrorKind;
@@ -34,7 +34,7 @@ use table_types::{Batch, CopyKind};
 use teach_writer::Pieces;
 
 /// Writes all of the bytes. Gives up on a write that fails if the writer's count of failed calls is then above `earlier`.
-pub(crate) fn send<W: Write + Faults>(
+fn send<W: Write + Faults>(
     output: &mut W,
     writes: &mut Writes,
     earlier: u64,
@@ -44,7 +44,7 @@ pub(crate) fn send<W: Write + Faults>(
     ensures failed { IfErr result (λ e. Falls bytes.now e (written (W.contents output.old) writes.old) (written (W.contents output.new) writes.new)) }
     ensures balks { OnErr result (Balks earlier (W.failed output.new) writes.old writes.new) }
 {
-    match write_counted(output, writes, earlier, bytes) {
+    match write_lesson_counted(output, writes, earlier, bytes) {
         Ok(()) => Ok(()),
         Err(fault) => Err(EngineError::Write { sent: fault.sent }),
     }
@@ -95,7 +95,6 @@ pub fn plan<H, G>(
 ) -> Result<Pieces, EngineError>
     ensures lesson { IfOk result (λ pieces. IsShortestLesson known.now batch.now (bytes_left pieces) pieces.known) }
     ensures refused { IfErr result (IsRefusal (Unit {0}) (IsBatchFor known.now.roster batch.now → ⊥)) }
-    ensures strange { IfErr result (λ e. e ≡ errors.Strange → IsBatchFor known.now.roster batch.now → ⊥) }
 {
     if !batch.is_for(known.roster()) {
         return Err(EngineError::Strange);
@@ -146,8 +145,8 @@ pub(crate) fn teach_batch<H: Wait, G: Gate, W: Write + Faults>(
 /// Performs one action of a session, gives the session its answer, if it has one, and appends what the session then asks for.
 ///
 /// Fails with `Write` if not all of its bytes are written, and leaves the seat as the action does. Fails with `Memory`
-/// or `Strange` before any are if the action can't be done; the seat is then as it was, but for the count of a table's
-/// refusal, and for the receipt of the close if a table was closed and not opened anew. Fails with `Memory` in the middle
+/// or `Strange` before any are if the action can't be done; the seat is then as it was, but for the answer of a table that
+/// refused, and for the receipt of the close if a table was closed and not opened anew. Fails with `Memory` in the middle
 /// of a lesson if memory runs out for its next bytes; the seat is then as the lesson leaves it. If the session refuses the
 /// answer, or memory runs out for what the answer asks for, the action was done, and the seat is as the action leaves it.
 pub(crate) fn act<H: Wait, G: Gate, W: Write + Faults>(
@@ -166,7 +165,7 @@ pub(crate) fn act<H: Wait, G: Gate, W: Write + Faults>(
         × (given.new.items ≡ given.old.items ++ asked answers)
         × AreWritten (written (W.contents output.old) writes.old) (written (W.contents output.new) writes.new) out) }
     ensures failed { IfErr result (λ e. (answers : List (Event × List Action)) × (out : List ℕ)
-        × Stops context.now.shards.now (worker session.old seat.old context.now.number context.now.moment) (action ∷ []) e answers out session.new.session seat.new
+        × Stops context.now.shards.now (worker session.old seat.old context.now.number context.now.moment) (action ∷ []) e answers out session.new seat.new
         × AreWritten (written (W.contents output.old) writes.old) (written (W.contents output.new) writes.new) out) }
     ensures unread { IfErr result (λ e. e ≢ errors.Read) }
     ensures balks { (sent : ℕ) → result ≡ Err (errors.Write sent) → Balks context.now.failures (W.failed output.new) writes.old writes.new }

@@ -1,10 +1,11 @@
 //! Laws of the definitions, whatever the program does.
 
-ghost use Rattle.std.specs.Prelude.{◌≡◌, ◌⊎◌, ◌+◌, ◌%◌, ◌^◌, ℕ, Bool, true, Err, List};
+ghost use Rattle.std.specs.Prelude.{◌≡◌, ◌∷◌, ◌++◌, ◌⊎◌, [], ℕ, true, Err, List};
 ghost use Rattle.session_core.specs.declared.action.Action.{Action};
 ghost use Rattle.session_core.specs.Sessions.{SessionState};
-ghost use Rattle.session_core.specs.StandingRuns.{Happening};
-ghost use Rattle.session_core.specs.Keeping.{KeptSession, Undergoes};
+ghost use Rattle.session_core.specs.declared.event.Event.{Event};
+ghost use Rattle.session_core.specs.Happenings.{Happening, Lasts, Walks};
+ghost use Rattle.session_core.specs.Keeping.{KeptSession};
 ghost use Rattle.table_types.specs.declared.copies.CopyKind.{CopyKind};
 ghost use Rattle.table_types.specs.declared.update.Update.{Update};
 ghost use Rattle.table_cell.specs.Histories.{CellState};
@@ -13,11 +14,11 @@ ghost use Rattle.table_cell.specs.declared.errors.LearnError.TheVariants as lear
 ghost use Rattle.table_shards.specs.Receipts.{SeatState};
 ghost use Rattle.table_shards.specs.Rounds.{ShardsState};
 ghost use Rattle.table_shards.specs.declared.errors.ShardError.TheVariants as errors;
-ghost use Rattle.peers_engine.specs.Acting.{Worker};
+ghost use Rattle.peers_engine.specs.declared.errors.EngineError.{EngineError};
+ghost use Rattle.peers_engine.specs.Acting.{Acts, EndsAlike, IsRefused, Worker, asked, stands};
 ghost use Rattle.peers_engine.specs.Calls.{CallsCopyOn, CallsLearnOn, moment_at};
-ghost use Rattle.peers_engine.specs.Doing.{IsStrange, IsUnasked};
-ghost use Rattle.peers_engine.specs.Ticks.{TakesTick, after_request};
-ghost use Rattle.peers_engine.specs.Turns.{Turns};
+ghost use Rattle.peers_engine.specs.Doing.{IsStrange, IsUnasked, KeepsRefusal};
+ghost use Rattle.peers_engine.specs.Turns.{Halts, Idles, Moves, Reacts, Turns};
 
 /// A session that stays is never late: no table refuses to learn a row or to copy a batch with `MomentBack`, since the call comes at
 /// the turn's moment, or at the table's latest one if that is later. So `Strange` of such a session never has that cause.
@@ -28,20 +29,37 @@ pub fn no_late_call_comes_too_early()
         CallsCopyOn c n (moment_at true now c) s table kind (Err (errors.Cell copy_errors.MomentBack)) t → ⊥ }
 {}
 
-/// If an action is `Strange`, the seat has counted one more refusal, unless no table is to be asked: the action's table is missing, or the
-/// batch of a lesson isn't one for the session's tables or has no update. So whoever asks no table, and leaves the seat as it was, ends
-/// with `Strange` only for these causes.
+/// If an action is `Strange`, the seat has one more answer, which is that the action's table refuses what the action asks for in this
+/// session; unless no table is to be asked: the action's table is missing, or the batch of a lesson isn't one for the session's tables or
+/// has no update. So whoever asks no table, and leaves the seat as it was, ends with `Strange` only for these causes.
 pub fn what_is_strange_was_refused()
-    ensures counted { (shards : ShardsState) (at : CellState → ℕ) (n : ℕ) (x : SessionState) (s t : SeatState) (act : Action) →
-        IsStrange shards at n x s act t → IsUnasked shards x act ⊎ (t.refused ≡ (s.refused + 1) % 2 ^ 64) }
+    ensures kept { (shards : ShardsState) (at : CellState → ℕ) (n : ℕ) (x : SessionState) (s t : SeatState) (act : Action) →
+        IsStrange shards at n x s act t → IsUnasked shards x act ⊎ KeepsRefusal at n x s act t }
     ensures changed { (shards : ShardsState) (at : CellState → ℕ) (n : ℕ) (x : SessionState) (s : SeatState) (act : Action) →
         IsStrange shards at n x s act s → IsUnasked shards x act }
 {}
 
-/// All that a turn, a tick or a request does to a worker's session happens to it in order. So each law about all that happens to a
-/// session holds of one with which a worker works, whether or not it requested a resync.
+/// All that a turn, or an event of this node's own, does to a worker's session is a run of the session. So each law about runs holds of a
+/// session with which a worker works, whether or not it requested a resync.
 pub fn what_a_worker_does_happens()
-    ensures turn { (s e : KeptSession) (now : ℕ) → Turns now s e → (steps : List Happening) × Undergoes s steps e }
-    ensures tick { (w e : Worker) (out : List ℕ) → TakesTick w out e → (steps : List Happening) × Undergoes w.session steps e.session }
-    ensures request { (s : KeptSession) (done : Bool) (now : ℕ) → (steps : List Happening) × Undergoes s steps (after_request done now s) }
+    ensures turn { (s e : KeptSession) (now : ℕ) → Turns now s e → (steps : List Happening) × Lasts s steps e }
+    ensures event { (s e : KeptSession) (now : ℕ) (event : Event) → Moves now event s e → (steps : List Happening) × Lasts s steps e }
+{}
+
+/// What is written, and done to the tables, is what a run of the session asked for, in order: the run in which the session receives the
+/// event and then the answers to its actions. So a law about the actions of runs is one about what a worker writes. If an error comes, this
+/// holds up to it, unless the session refused the event.
+pub fn what_is_written_is_the_run()
+    ensures reacts { (w e : Worker) (event : Event) (out : List ℕ) → Reacts w event out e →
+        (acts : List Action) × (answers : List (Event × List Action)) × (mid : KeptSession)
+        × Walks w.now w.session ((event, acts) ∷ answers) e.session × Acts (stands w mid w.seat) (acts ++ asked answers) answers out e }
+    ensures idles { (w e : Worker) (event : Event) → Idles w event e →
+        (acts : List Action) × (answers : List (Event × List Action)) × (mid : KeptSession)
+        × Walks w.now w.session ((event, acts) ∷ answers) e.session × Acts (stands w mid w.seat) acts answers [] e }
+    ensures halts { (shards : ShardsState) (w : Worker) (event : Event) (error : EngineError) (out : List ℕ) (e : KeptSession) (seat : SeatState) →
+        Halts shards w event error out e seat →
+        IsRefused w.session.session event error
+        ⊎ ((acts before rest : List Action) × (answers : List (Event × List Action)) × (first last : List ℕ) × (mid : KeptSession) × (at : Worker)
+        × Walks w.now w.session ((event, acts) ∷ answers) at.session × Acts (stands w mid w.seat) before answers first at
+        × (acts ++ asked answers ≡ before ++ rest) × (out ≡ first ++ last) × EndsAlike at.session e) }
 {}

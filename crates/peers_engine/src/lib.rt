@@ -25,6 +25,7 @@ pub use fused::Fused;
 pub use gate::{AlwaysOpen, Gate, Stage};
 pub use laws::{
     no_late_call_comes_too_early, what_a_worker_does_happens, what_is_strange_was_refused,
+    what_is_written_is_the_run,
 };
 pub use outcome::Outcome;
 pub use peers_devices::{Counting, Faults};
@@ -32,4 +33,6 @@ pub use tables::{acknowledge, settle};
 pub use turned::Turned;
 pub use turning::turn;
 pub use worker::Worker;
-pub use writing::{PiecesError, WriteFault, write_lesson, write_pieces, write_pieces_counted};
+pub use writing::{
+    PiecesError, WriteFault, write_lesson, write_lesson_counted, write_pieces, write_pieces_counted,
+};

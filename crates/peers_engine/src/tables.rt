@@ -1,5 +1,5 @@
-//! The calls on tables that a session asks for. Each takes the table's lock for that call only. The seat keeps an
-//! answer that makes no event and lets the turn go on.
+//! The calls on tables that a session asks for. Each takes the table's lock for that call only. The seat keeps each
+//! answer that makes no event, unless memory ran out.
 
 ghost use Rattle.std.specs.Prelude.{◌≡◌, ◌⊎◌, ℕ, IfErr, IfOk, OnOk, Ok};
 ghost use Rattle.peers_engine.specs.Calls.{CallsClose, CallsOpen, IsBarred, IsCopied, IsCopiedOn, IsLearned, IsLearnedOn, IsMissing, IsReopened, IsSettled, IsSoundTable, IsTaken, IsUncopied, IsUnlearned, IsUnopened, IsUnsettled, IsUntaken, RefusesClose, RefusesCopyOn, RefusesLearnOn, RefusesOpen, ack_end, close_end, copy_end, learn_end, moment_at, open_end, opened_with, settle_end};
@@ -10,7 +10,7 @@ use crate::errors::EngineError;
 use session_core::Event;
 use std::sync::{MutexGuard, Wait};
 use table_cell::{AckError, CloseError, CopyError, LearnError, OpenError, StrangeBatch};
-use table_shards::held::{lent, noted};
+use table_shards::held::noted;
 use table_shards::{Locked, Seat, ShardError};
 use table_types::{Batch, CopyKind, Moment, Settled, Update, Version};
 
@@ -243,7 +243,7 @@ fn close<H: Wait, G>(
     let mut guard = lock(context, table)?;
     let locked: &mut Locked = &mut guard;
     note_sound(locked);
-    close_end(lent::close_session(locked, seat, table, context.number))
+    close_end(noted::close_session(locked, seat, table, context.number))
 }
 
 /// Returns the version with which a session is opened in its tables: the one that it speaks, or 2.1 until its hello is done.
@@ -267,7 +267,7 @@ fn open<H: Wait, G>(
     let mut guard = lock(context, table)?;
     let locked: &mut Locked = &mut guard;
     note_sound(locked);
-    open_end(lent::open_session(locked, seat, table, context.number, version))
+    open_end(noted::open_session(locked, seat, table, context.number, version))
 }
 
 /// Closes the session in a table and opens it anew, with this version.

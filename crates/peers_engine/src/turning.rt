@@ -1,4 +1,4 @@
-//! Turns and ticks of a session.
+//! Turns of a session, and events of its node's own.
 
 ghost use Rattle.std.specs.Prelude.{◌≡◌, ◌≢◌, ◌↔◌, [], true, Ok, Err, IfErr, IfOk, List, OnErr, OnOk, Option, ℕ};
 ghost use Rattle.std.specs.List.{list_all};
@@ -9,17 +9,15 @@ ghost use Rattle.session_core.specs.declared.action.Action.{Action};
 ghost use Rattle.session_core.specs.declared.error.SessionError.{SessionError};
 ghost use Rattle.session_core.specs.declared.error.SessionError.TheVariants as refusals;
 ghost use Rattle.session_core.specs.declared.event.Event.{Event};
-ghost use Rattle.session_core.specs.declared.event.Event.TheVariants as events;
 ghost use Rattle.session_core.specs.declared.state.State.TheVariants as states;
-ghost use Rattle.session_core.specs.Keeping.{IsTicked, is_staying};
+ghost use Rattle.session_core.specs.Keeping.{is_staying};
 ghost use Rattle.session_core.specs.Sessions.{Refuses, ended, state_of};
 ghost use Rattle.peers_engine.specs.declared.errors.EngineError.TheVariants as errors;
 ghost use Rattle.peers_engine.specs.declared.outcome.Outcome.TheVariants as outcomes;
 ghost use Rattle.peers_engine.specs.declared.turned.Turned.TheVariants as turns;
 ghost use Rattle.peers_engine.specs.Acting.{Acts, Stops, asked, worker};
 ghost use Rattle.peers_engine.specs.Reading.{IsRead};
-ghost use Rattle.peers_engine.specs.Ticks.{AreReopened, FailsToReopen, StopsTick, TakesTick};
-ghost use Rattle.peers_engine.specs.Turns.{Breaks, Halts, HaltsAt, Receives, Idles, Reacts, StopsTurn, TakesTurn, Turns, first_event, is_push};
+ghost use Rattle.peers_engine.specs.Turns.{Breaks, BreaksAt, Halts, HaltsAt, Moves, Receives, Idles, Reacts, StopsTurn, TakesTurn, Turns, first_event, is_push};
 
 use crate::context::Context;
 use crate::doing::act;
@@ -27,15 +25,14 @@ use crate::errors::EngineError;
 use crate::gate::Gate;
 use crate::outcome::Outcome;
 use crate::reading::read_event;
-use crate::tables::{opened_with, reopen};
 use crate::turned::Turned;
 use peers_devices::{Faults, Writes};
-use session_core::{Action, Event, Session, State, Ticked};
+use session_core::{Action, Event, Session, State};
 use std::alloc::Global;
 use std::io::{Read, Write};
 use std::sync::Wait;
 use table_shards::{Seat, Shards};
-use table_types::{CopyKind, Moment, Version};
+use table_types::{CopyKind, Moment};
 
 /// Returns the event with which a turn begins.
 pub(crate) fn first_event(state: State) -> Event
@@ -62,7 +59,7 @@ fn do_all<H: Wait, G: Gate, W: Write + Faults>(
         × Acts (worker session.old seat.old context.now.number context.now.moment) actions.items answers out (worker session.new seat.new context.now.number context.now.moment) × (given.items ≡ asked answers)
         × AreWritten (written (W.contents output.old) writes.old) (written (W.contents output.new) writes.new) out) }
     ensures failed { IfErr result (λ e. (answers : List (Event × List Action)) × (out : List ℕ)
-        × Stops context.now.shards.now (worker session.old seat.old context.now.number context.now.moment) actions.items e answers out session.new.session seat.new
+        × Stops context.now.shards.now (worker session.old seat.old context.now.number context.now.moment) actions.items e answers out session.new seat.new
         × AreWritten (written (W.contents output.old) writes.old) (written (W.contents output.new) writes.new) out) }
     ensures unread { IfErr result (λ e. e ≢ errors.Read) }
     ensures balks { (sent : ℕ) → result ≡ Err (errors.Write sent) → Balks context.now.failures (W.failed output.new) writes.old writes.new }
@@ -104,7 +101,7 @@ fn react<H: Wait, G: Gate, W: Write + Faults>(
     ensures manner { is_staying session.new.manner ≡ is_staying session.old.manner }
     ensures done { OnOk result ((out : List ℕ) × Reacts (worker session.old seat.old context.now.number context.now.moment) event out (worker session.new seat.new context.now.number context.now.moment)
         × AreWritten (written (W.contents output.old) writes.old) (written (W.contents output.new) writes.new) out) }
-    ensures failed { IfErr result (λ e. (out : List ℕ) × Halts context.now.shards.now (worker session.old seat.old context.now.number context.now.moment) event e out session.new.session seat.new
+    ensures failed { IfErr result (λ e. (out : List ℕ) × Halts context.now.shards.now (worker session.old seat.old context.now.number context.now.moment) event e out session.new seat.new
         × AreWritten (written (W.contents output.old) writes.old) (written (W.contents output.new) writes.new) out) }
     ensures unread { IfErr result (λ e. e ≢ errors.Read) }
     ensures balks { (sent : ℕ) → result ≡ Err (errors.Write sent) → Balks context.now.failures (W.failed output.new) writes.old writes.new }
@@ -140,7 +137,7 @@ fn receive<H: Wait, G: Gate, R: Read + Faults, W: Write + Faults>(
     ensures nothing { result ≡ Ok true → Consumes (R.remaining input.old) (R.remaining input.new) []
         × (session.new ≡ session.old) × (seat.new ≡ seat.old) × (output.new ≡ output.old) × (writes.new ≡ writes.old) }
     ensures failed { IfErr result (λ e. (received : Option Event) × (read out : List ℕ) × IsRead (IsAtEnd (R.remaining input.new)) received read
-        × HaltsAt context.now.shards.now (worker session.old seat.old context.now.number context.now.moment) received e out session.new.session seat.new
+        × HaltsAt context.now.shards.now (worker session.old seat.old context.now.number context.now.moment) received e out session.new seat.new
         × Consumes (R.remaining input.old) (R.remaining input.new) read
         × AreWritten (written (W.contents output.old) writes.old) (written (W.contents output.new) writes.new) out) }
     ensures read { result ≡ Err errors.Read → Rose (R.failed input.old) (R.failed input.new) }
@@ -174,7 +171,7 @@ fn take_turn<H: Wait, G: Gate, R: Read + Faults, W: Write + Faults>(
     ensures idle { result ≡ Ok true → Idles (worker session.old seat.old context.now.number context.now.moment) (first_event (state_of session.old.session.phase)) (worker session.new seat.new context.now.number context.now.moment)
         × Consumes (R.remaining input.old) (R.remaining input.new) [] × AreWritten (written (W.contents output.old) writes.old) (written (W.contents output.new) writes.new) [] }
     ensures failed { IfErr result (λ e. (received : Option Event) × (read out : List ℕ) × IsRead (IsAtEnd (R.remaining input.new)) received read
-        × StopsTurn context.now.shards.now (input.new ≡ input.old) (worker session.old seat.old context.now.number context.now.moment) received e out session.new.session seat.new
+        × StopsTurn context.now.shards.now (input.new ≡ input.old) (worker session.old seat.old context.now.number context.now.moment) received e out session.new seat.new
         × Consumes (R.remaining input.old) (R.remaining input.new) read
         × AreWritten (written (W.contents output.old) writes.old) (written (W.contents output.new) writes.new) out) }
     ensures read { result ≡ Err errors.Read → Rose (R.failed input.old) (R.failed input.new) }
@@ -190,61 +187,11 @@ fn take_turn<H: Wait, G: Gate, R: Read + Faults, W: Write + Faults>(
     }
 }
 
-/// Closes the session in the tables and opens it anew, with this version, in order.
-fn reopen_all<H: Wait, G>(
-    context: &Context<H, G>,
-    seat: &mut Seat,
-    tables: &[u64],
-    version: Version,
-) -> Result<(), EngineError>
-    ensures seat { seat.new.number ≡ seat.old.number }
-    ensures reopened { OnOk result (AreReopened context.now.number version seat.old tables.now seat.new) }
-    ensures left { IfErr result (λ e. FailsToReopen context.now.shards.now context.now.number version seat.old tables.now e seat.new) }
-    ensures unread { IfErr result (λ e. e ≢ errors.Read) }
-    ensures unwritten { IfErr result (λ e. (sent : ℕ) → e ≢ errors.Write sent) }
-{
-    for table in tables {
-        reopen(context, seat, *table, version)?;
-    }
-    Ok(())
-}
-
-/// Takes a tick, but leaves it to the caller to end the session after an error. Returns whether there was nothing to do. A tick
-/// asks for nothing that has an answer, so nothing is left to do after that.
-fn take_tick<H: Wait, G: Gate, W: Write + Faults>(
-    context: &Context<H, G>,
-    session: &mut Session,
-    output: &mut W,
-    writes: &mut Writes,
-    seat: &mut Seat,
-) -> Result<bool, EngineError>
-    ensures seat { seat.new.number ≡ seat.old.number }
-    ensures manner { is_staying session.new.manner ≡ is_staying session.old.manner }
-    ensures done { OnOk result ((out : List ℕ) × TakesTick (worker session.old seat.old context.now.number context.now.moment) out (worker session.new seat.new context.now.number context.now.moment)
-        × AreWritten (written (W.contents output.old) writes.old) (written (W.contents output.new) writes.new) out) }
-    ensures failed { IfErr result (λ e. (out : List ℕ) × StopsTick context.now.shards.now (worker session.old seat.old context.now.number context.now.moment) e out session.new.session seat.new
-        × AreWritten (written (W.contents output.old) writes.old) (written (W.contents output.new) writes.new) out) }
-    ensures unread { IfErr result (λ e. e ≢ errors.Read) }
-    ensures balks { (sent : ℕ) → result ≡ Err (errors.Write sent) → Balks context.now.failures (W.failed output.new) writes.old writes.new }
-    ensures idle { result ≡ Ok true → IsTicked session.old context.now.moment [] [] session.new × (seat.new ≡ seat.old) × AreWritten (written (W.contents output.old) writes.old) (written (W.contents output.new) writes.new) [] }
-    ensures refused { (e : SessionError) → e ≢ refusals.Memory → Refuses session.old.session.phase events.Turn e
-        → (result ≡ Err (errors.Session e)) × (output.new ≡ output.old) × (writes.new ≡ writes.old) }
-{
-    let Ticked { left, actions } = session.tick(context.moment)?;
-    let is_idle = left.is_empty() && actions.is_empty();
-    reopen_all(
-        context,
-        seat,
-        left.as_slice(),
-        opened_with(session.version()),
-    )?;
-    do_all(context, session, output, writes, seat, actions)?;
-    Ok(is_idle)
-}
-
 /// Ends the session after an error.
 fn end<H, G>(context: &Context<H, G>, session: &mut Session, error: EngineError)
     ensures ended { session.new.session ≡ ended session.old.session }
+    ensures heard { session.new.heard ≡ session.old.heard }
+    ensures counts { session.new.counts ≡ session.old.counts }
     ensures manner { is_staying session.new.manner ≡ is_staying session.old.manner }
 {
     let event = match error {
@@ -255,7 +202,7 @@ fn end<H, G>(context: &Context<H, G>, session: &mut Session, error: EngineError)
     let _closing = session.on(event, context.moment);
 }
 
-/// Returns what a turn or a tick without an error came to, from whether there was nothing to do.
+/// Returns what a turn or an event without an error came to, from whether there was nothing to do.
 fn outcome(session: &Session, is_idle: bool) -> Outcome
     ensures closed { (result ≡ outcomes.Closed) ↔ (state_of session.now.session.phase ≡ states.Ended) }
     ensures idled { result ≡ outcomes.Idled → is_idle ≡ true }
@@ -282,7 +229,7 @@ pub(crate) fn turn_and_end<H: Wait, G: Gate, R: Read + Faults, W: Write + Faults
     ensures closed { IfOk result (λ outcome. (outcome ≡ outcomes.Closed) ↔ (state_of session.new.session.phase ≡ states.Ended)) }
     ensures idled { result ≡ Ok outcomes.Idled → Idles (worker session.old seat.old context.now.number context.now.moment) (first_event (state_of session.old.session.phase)) (worker session.new seat.new context.now.number context.now.moment)
         × Consumes (R.remaining input.old) (R.remaining input.new) [] × AreWritten (written (W.contents output.old) writes.old) (written (W.contents output.new) writes.new) [] }
-    ensures broken { OnErr result (Breaks context.now.moment session.old session.new.session) }
+    ensures broken { OnErr result (Breaks context.now.moment session.old session.new) }
     ensures ended { OnErr result (state_of session.new.session.phase ≡ states.Ended) }
     ensures seat { seat.new.number ≡ seat.old.number }
     ensures manner { is_staying session.new.manner ≡ is_staying session.old.manner }
@@ -291,7 +238,7 @@ pub(crate) fn turn_and_end<H: Wait, G: Gate, R: Read + Faults, W: Write + Faults
         × Consumes (R.remaining input.old) (R.remaining input.new) read
         × AreWritten (written (W.contents output.old) writes.old) (written (W.contents output.new) writes.new) out) }
     ensures stopped { IfErr result (λ e. (received : Option Event) × (read out : List ℕ) × IsRead (IsAtEnd (R.remaining input.new)) received read
-        × StopsTurn context.now.shards.now (input.new ≡ input.old) (worker session.old seat.old context.now.number context.now.moment) received e out session.new.session seat.new
+        × StopsTurn context.now.shards.now (input.new ≡ input.old) (worker session.old seat.old context.now.number context.now.moment) received e out session.new seat.new
         × Consumes (R.remaining input.old) (R.remaining input.new) read
         × AreWritten (written (W.contents output.old) writes.old) (written (W.contents output.new) writes.new) out) }
     ensures read { result ≡ Err errors.Read → Rose (R.failed input.old) (R.failed input.new) }
@@ -310,32 +257,35 @@ pub(crate) fn turn_and_end<H: Wait, G: Gate, R: Read + Faults, W: Write + Faults
     }
 }
 
-/// Takes a tick, and ends the session after an error.
-pub(crate) fn tick_and_end<H: Wait, G: Gate, W: Write + Faults>(
+/// Gives the session an event of this node's own, performs what it asks for, and ends the session after an error.
+pub(crate) fn take_and_end<H: Wait, G: Gate, W: Write + Faults>(
     context: &Context<H, G>,
     session: &mut Session,
     output: &mut W,
     writes: &mut Writes,
     seat: &mut Seat,
+    event: Event,
 ) -> Result<Outcome, EngineError>
-    ensures ticked { OnOk result ((out : List ℕ) × TakesTick (worker session.old seat.old context.now.number context.now.moment) out (worker session.new seat.new context.now.number context.now.moment)
+    ensures run { OnOk result (Moves context.now.moment event session.old session.new) }
+    ensures taken { OnOk result ((out : List ℕ) × Reacts (worker session.old seat.old context.now.number context.now.moment) event out (worker session.new seat.new context.now.number context.now.moment)
         × AreWritten (written (W.contents output.old) writes.old) (written (W.contents output.new) writes.new) out) }
     ensures closed { IfOk result (λ outcome. (outcome ≡ outcomes.Closed) ↔ (state_of session.new.session.phase ≡ states.Ended)) }
-    ensures idled { result ≡ Ok outcomes.Idled → IsTicked session.old context.now.moment [] [] session.new × (seat.new ≡ seat.old)
+    ensures idled { result ≡ Ok outcomes.Idled → Idles (worker session.old seat.old context.now.number context.now.moment) event (worker session.new seat.new context.now.number context.now.moment)
         × AreWritten (written (W.contents output.old) writes.old) (written (W.contents output.new) writes.new) [] }
+    ensures broken { OnErr result (BreaksAt context.now.moment event session.old session.new) }
     ensures ended { OnErr result (state_of session.new.session.phase ≡ states.Ended) }
-    ensures stopped { IfErr result (λ e. (out : List ℕ) × StopsTick context.now.shards.now (worker session.old seat.old context.now.number context.now.moment) e out session.new.session seat.new
+    ensures stopped { IfErr result (λ e. (out : List ℕ) × Halts context.now.shards.now (worker session.old seat.old context.now.number context.now.moment) event e out session.new seat.new
         × AreWritten (written (W.contents output.old) writes.old) (written (W.contents output.new) writes.new) out) }
     ensures unread { IfErr result (λ e. e ≢ errors.Read) }
     ensures balks { (sent : ℕ) → result ≡ Err (errors.Write sent) → Balks context.now.failures (W.failed output.new) writes.old writes.new }
-    ensures refused { (e : SessionError) → e ≢ refusals.Memory → Refuses session.old.session.phase events.Turn e
+    ensures refused { (e : SessionError) → e ≢ refusals.Memory → Refuses session.old.session.phase event e
         → (result ≡ Err (errors.Session e)) × (output.new ≡ output.old) × (writes.new ≡ writes.old) }
     ensures over { state_of session.old.session.phase ≡ states.Ended
         → (result ≡ Err (errors.Session refusals.Ended)) × (output.new ≡ output.old) × (writes.new ≡ writes.old) }
     ensures seat { seat.new.number ≡ seat.old.number }
     ensures manner { is_staying session.new.manner ≡ is_staying session.old.manner }
 {
-    match take_tick(context, session, output, writes, seat) {
+    match react(context, session, output, writes, seat, event) {
         Ok(is_idle) => Ok(outcome(session, is_idle)),
         Err(error) => {
             end(context, session, error);
@@ -356,9 +306,9 @@ pub(crate) fn tick_and_end<H: Wait, G: Gate, W: Write + Faults>(
 /// the gate, a read or a write does.
 ///
 /// After an error the session is over. `turn` returns the seat in any case, with the receipts of what was done before the
-/// error, and with the latest answer that made no event. It returns `Read` only if the reader's count of failures rose,
-/// and `Write` only if the writer's count rose, a write took no byte, or more than a million writes failed without being
-/// counted; `sent` is below the length of what was being written. After `Memory` a part of a lesson, but not all of it, may
+/// error, and with the latest answer that made no event. It returns `Read` only if the reader's count of failures rose. It
+/// returns `Write` for the causes for which `Worker::turn` does, though no contract of `turn` says so; `sent` is below the
+/// length of what was being written. After `Memory` a part of a lesson, but not all of it, may
 /// be written. The turn skips a read that fails without being counted.
 pub fn turn<H: Wait, R: Read + Faults, W: Write + Faults, G: Gate>(
     rt: &H,
@@ -374,7 +324,7 @@ pub fn turn<H: Wait, R: Read + Faults, W: Write + Faults, G: Gate>(
 ) -> (Seat, Result<Turned, EngineError>)
     ensures run { OnOk result.1 (Turns now session.old session.new) }
     ensures closed { IfOk result.1 (λ turned. (turned ≡ turns.Closed) ↔ (state_of session.new.session.phase ≡ states.Ended)) }
-    ensures broken { OnErr result.1 (Breaks now session.old session.new.session) }
+    ensures broken { OnErr result.1 (Breaks now session.old session.new) }
     ensures ended { OnErr result.1 (state_of session.new.session.phase ≡ states.Ended) }
     ensures seat { result.0.number ≡ seat.number }
     ensures manner { is_staying session.new.manner ≡ is_staying session.old.manner }
@@ -383,7 +333,7 @@ pub fn turn<H: Wait, R: Read + Faults, W: Write + Faults, G: Gate>(
         × Consumes (R.remaining input.old) (R.remaining input.new) read
         × Appends (W.contents output.old) (W.contents output.new) out) }
     ensures stopped { IfErr result.1 (λ e. (received : Option Event) × (read out : List ℕ) × IsRead (IsAtEnd (R.remaining input.new)) received read
-        × StopsTurn shards.now (input.new ≡ input.old) (worker session.old seat number now) received e out session.new.session result.0
+        × StopsTurn shards.now (input.new ≡ input.old) (worker session.old seat number now) received e out session.new result.0
         × Consumes (R.remaining input.old) (R.remaining input.new) read
         × Appends (W.contents output.old) (W.contents output.new) out) }
     ensures read { result.1 ≡ Err errors.Read → Rose (R.failed input.old) (R.failed input.new) }

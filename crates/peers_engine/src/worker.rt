@@ -4,39 +4,30 @@ ghost use Rattle.std.specs.Prelude.{◌≡◌, ◌≢◌, ◌↔◌, [], ℕ, Li
 ghost use Rattle.std.specs.Io.KnownBytes.{Consumes, IsAtEnd};
 ghost use Rattle.peers_devices.specs.Writing.{AreWritten, Balks, written};
 ghost use Rattle.peers_devices.specs.Failures.{Rose};
-ghost use Rattle.peers_msg.specs.declared.control.Control.TheVariants as controls;
 ghost use Rattle.session_core.specs.declared.error.SessionError.{SessionError};
 ghost use Rattle.session_core.specs.declared.error.SessionError.TheVariants as refusals;
 ghost use Rattle.session_core.specs.declared.event.Event.{Event};
-ghost use Rattle.session_core.specs.declared.event.Event.TheVariants as events;
 ghost use Rattle.session_core.specs.declared.state.State.TheVariants as states;
-ghost use Rattle.session_core.specs.Actions.{control_text};
-ghost use Rattle.session_core.specs.Keeping.{IsTicked, is_staying};
-ghost use Rattle.session_core.specs.Sessions.{Refuses, ended, state_of};
+ghost use Rattle.session_core.specs.Keeping.{is_staying};
+ghost use Rattle.session_core.specs.Sessions.{Refuses, state_of};
 ghost use Rattle.peers_engine.specs.declared.errors.EngineError.TheVariants as errors;
 ghost use Rattle.peers_engine.specs.declared.outcome.Outcome.TheVariants as outcomes;
 ghost use Rattle.peers_engine.specs.Acting.{worker};
-ghost use Rattle.peers_engine.specs.Doing.{Falls};
 ghost use Rattle.peers_engine.specs.Reading.{IsRead};
-ghost use Rattle.peers_engine.specs.Ticks.{StopsTick, TakesTick, after_request, can_request, request_text};
-ghost use Rattle.peers_engine.specs.Turns.{Breaks, Idles, StopsTurn, TakesTurn, Turns, first_event};
+ghost use Rattle.peers_engine.specs.Turns.{Breaks, BreaksAt, Halts, Idles, Moves, Reacts, StopsTurn, TakesTurn, Turns, first_event};
 
 use crate::context::Context;
-use crate::doing::send;
 use crate::errors::EngineError;
 use crate::gate::{AlwaysOpen, Gate};
 use crate::outcome::Outcome;
-use crate::turning::{tick_and_end, turn_and_end};
+use crate::turning::{take_and_end, turn_and_end};
 use peers_devices::{Faults, Writes};
-use session_core::{Event, Session, State};
+use session_core::{Event, Session};
 use std::alloc::Global;
 use std::io::{Read, Write};
 use std::sync::Wait;
 use table_shards::{Seat, Shards};
 use table_types::Moment;
-
-/// The bytes of a resync request.
-const RESYNC_REQUEST_BYTES: [u8; 2] = [0, 0];
 
 /// A session at work: the session, the seat from which it calls the tables, and its number in them.
 #[derive(Drop)]
@@ -51,7 +42,7 @@ pub struct Worker {
 
 impl Worker {
     /// Takes one turn of the session, as the function `turn` does for one whose parts stand alone. The seat keeps the
-    /// receipts of what the turn did, after an error too. Adds what the turn's writes to `output` came to to `writes`.
+    /// receipts of what the turn did, after an error too. Counts the turn's writes to `output` in `writes`.
     ///
     /// Each learn and each copy comes at `now`; for a session that stays it comes at the table's latest moment if that is later.
     pub fn turn<H: Wait, R: Read + Faults, W: Write + Faults, G: Gate>(
@@ -70,7 +61,7 @@ impl Worker {
         ensures idled { result ≡ Ok outcomes.Idled
             → Idles (worker self.old.session self.old.seat self.old.number now) (first_event (state_of self.old.session.session.phase)) (worker self.new.session self.new.seat self.new.number now)
             × Consumes (R.remaining input.old) (R.remaining input.new) [] × AreWritten (written (W.contents output.old) writes.old) (written (W.contents output.new) writes.new) [] }
-        ensures broken { OnErr result (Breaks now self.old.session self.new.session.session) }
+        ensures broken { OnErr result (Breaks now self.old.session self.new.session) }
         ensures ended { OnErr result (state_of self.new.session.session.phase ≡ states.Ended) }
         ensures seat { self.new.seat.number ≡ self.old.seat.number }
         ensures number { self.new.number ≡ self.old.number }
@@ -80,7 +71,7 @@ impl Worker {
             × Consumes (R.remaining input.old) (R.remaining input.new) read
             × AreWritten (written (W.contents output.old) writes.old) (written (W.contents output.new) writes.new) out) }
         ensures stopped { IfErr result (λ e. (received : Option Event) × (read out : List ℕ) × IsRead (IsAtEnd (R.remaining input.new)) received read
-            × StopsTurn shards.now (input.new ≡ input.old) (worker self.old.session self.old.seat self.old.number now) received e out self.new.session.session self.new.seat
+            × StopsTurn shards.now (input.new ≡ input.old) (worker self.old.session self.old.seat self.old.number now) received e out self.new.session self.new.seat
             × Consumes (R.remaining input.old) (R.remaining input.new) read
             × AreWritten (written (W.contents output.old) writes.old) (written (W.contents output.new) writes.new) out) }
         ensures read { result ≡ Err errors.Read → Rose (R.failed input.old) (R.failed input.new) }
@@ -109,28 +100,32 @@ impl Worker {
         )
     }
 
-    /// Takes a tick of the session: reopens the session in the tables that it leaves, and performs what it asks for. Doesn't read.
-    /// After an error the session is over, as after one of a turn. Adds what its writes to `output` came to to `writes`.
-    pub fn tick<H: Wait, W: Write + Faults>(
+    /// Gives the session an event of this node's own and performs what it asks for: a tick, a request for a resync, or word that this
+    /// node is up to date. Doesn't read. After an error the session is over, as after one of a turn. Counts its writes to `output` in
+    /// `writes`.
+    pub fn take<H: Wait, W: Write + Faults>(
         &mut self,
         rt: &H,
         alloc: Global,
         output: &mut W,
         writes: &mut Writes,
         shards: &Shards,
+        event: Event,
         now: Moment,
     ) -> Result<Outcome, EngineError>
-        ensures ticked { OnOk result ((out : List ℕ) × TakesTick (worker self.old.session self.old.seat self.old.number now) out (worker self.new.session self.new.seat self.new.number now)
+        ensures run { OnOk result (Moves now event self.old.session self.new.session) }
+        ensures taken { OnOk result ((out : List ℕ) × Reacts (worker self.old.session self.old.seat self.old.number now) event out (worker self.new.session self.new.seat self.new.number now)
             × AreWritten (written (W.contents output.old) writes.old) (written (W.contents output.new) writes.new) out) }
         ensures closed { IfOk result (λ outcome. (outcome ≡ outcomes.Closed) ↔ (state_of self.new.session.session.phase ≡ states.Ended)) }
-        ensures idled { result ≡ Ok outcomes.Idled → IsTicked self.old.session now [] [] self.new.session × (self.new.seat ≡ self.old.seat)
+        ensures idled { result ≡ Ok outcomes.Idled → Idles (worker self.old.session self.old.seat self.old.number now) event (worker self.new.session self.new.seat self.new.number now)
             × AreWritten (written (W.contents output.old) writes.old) (written (W.contents output.new) writes.new) [] }
+        ensures broken { OnErr result (BreaksAt now event self.old.session self.new.session) }
         ensures ended { OnErr result (state_of self.new.session.session.phase ≡ states.Ended) }
-        ensures stopped { IfErr result (λ e. (out : List ℕ) × StopsTick shards.now (worker self.old.session self.old.seat self.old.number now) e out self.new.session.session self.new.seat
+        ensures stopped { IfErr result (λ e. (out : List ℕ) × Halts shards.now (worker self.old.session self.old.seat self.old.number now) event e out self.new.session self.new.seat
             × AreWritten (written (W.contents output.old) writes.old) (written (W.contents output.new) writes.new) out) }
         ensures unread { IfErr result (λ e. e ≢ errors.Read) }
         ensures balks { (sent : ℕ) → result ≡ Err (errors.Write sent) → Balks (W.failed output.old) (W.failed output.new) writes.old writes.new }
-        ensures refused { (e : SessionError) → e ≢ refusals.Memory → Refuses self.old.session.session.phase events.Turn e
+        ensures refused { (e : SessionError) → e ≢ refusals.Memory → Refuses self.old.session.session.phase event e
             → (result ≡ Err (errors.Session e)) × (output.new ≡ output.old) × (writes.new ≡ writes.old) }
         ensures over { state_of self.old.session.session.phase ≡ states.Ended
             → (result ≡ Err (errors.Session refusals.Ended)) × (output.new ≡ output.old) × (writes.new ≡ writes.old) }
@@ -147,41 +142,13 @@ impl Worker {
             moment: now,
             failures: output.failures(),
         };
-        tick_and_end(&context, &mut self.session, output, writes, &mut self.seat)
-    }
-
-    /// Requests a resync if the session is open, and returns whether it did. A session that isn't open requests nothing. After
-    /// an error, which is a write, the session is over. Adds what its writes to `output` came to to `writes`.
-    pub fn request<W: Write + Faults>(
-        &mut self,
-        output: &mut W,
-        writes: &mut Writes,
-        now: Moment,
-    ) -> Result<bool, EngineError>
-        ensures requested { IfOk result (λ done. done ≡ can_request (state_of self.old.session.session.phase)) }
-        ensures written { IfOk result (λ done. AreWritten (written (W.contents output.old) writes.old) (written (W.contents output.new) writes.new) (request_text done)) }
-        ensures session { IfOk result (λ done. self.new.session ≡ after_request done now self.old.session) }
-        ensures ended { OnErr result (state_of self.new.session.session.phase ≡ states.Ended) }
-        ensures stopped { IfErr result (λ e. Falls (control_text controls.ResyncRequest) e (written (W.contents output.old) writes.old) (written (W.contents output.new) writes.new)
-            × (self.new.session.session ≡ ended self.old.session.session)) }
-        ensures balks { OnErr result (Balks (W.failed output.old) (W.failed output.new) writes.old writes.new) }
-        ensures seat { self.new.seat ≡ self.old.seat }
-        ensures number { self.new.number ≡ self.old.number }
-        ensures manner { is_staying self.new.session.manner ≡ is_staying self.old.session.manner }
-    {
-        if !matches!(self.session.state(), State::Ready | State::Teaching) {
-            return Ok(false);
-        }
-        let earlier = output.failures();
-        match send(output, writes, earlier, &RESYNC_REQUEST_BYTES) {
-            Ok(()) => {
-                self.session.note_sent(now);
-                Ok(true)
-            }
-            Err(error) => {
-                let _closing = self.session.on(Event::WriteFault, now);
-                Err(error)
-            }
-        }
+        take_and_end(
+            &context,
+            &mut self.session,
+            output,
+            writes,
+            &mut self.seat,
+            event,
+        )
     }
 }

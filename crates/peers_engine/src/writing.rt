@@ -37,12 +37,12 @@ pub fn write_lesson<W: Write + Faults>(output: &mut W, lesson: &[u8]) -> Result<
 {
     let earlier = output.failures();
     let mut writes = Writes::none();
-    write_counted(output, &mut writes, earlier, lesson)
+    write_lesson_counted(output, &mut writes, earlier, lesson)
 }
 
-/// Writes all of the bytes as `write_lesson` does, and adds what the writes came to to `writes`. The device counts a failure if its
-/// count of failed calls is then above `earlier`.
-pub(crate) fn write_counted<W: Write + Faults>(
+/// Writes all bytes of a lesson as `write_lesson` does, and counts the writes in `writes`. The device counts a failure if its count of
+/// failed calls is then above `earlier`.
+pub fn write_lesson_counted<W: Write + Faults>(
     output: &mut W,
     writes: &mut Writes,
     earlier: u64,
@@ -121,7 +121,7 @@ fn write_next<W: Write + Faults>(
     let Some(after) = before.checked_add(bytes.len()) else {
         return Err(PiecesError::Memory { sent: before });
     };
-    match write_counted(output, writes, earlier, bytes.as_slice()) {
+    match write_lesson_counted(output, writes, earlier, bytes.as_slice()) {
         Ok(()) => {
             *sent = after;
             Ok(more)
@@ -151,7 +151,7 @@ pub fn write_pieces<W: Write + Faults>(
     write_pieces_counted(alloc, output, &mut writes, earlier, pieces)
 }
 
-/// Writes what is left of a lesson as `write_pieces` does, and adds what the writes came to to `writes`. The device counts a failure
+/// Writes what is left of a lesson as `write_pieces` does, and counts the writes in `writes`. The device counts a failure
 /// if its count of failed calls is then above `earlier`.
 pub fn write_pieces_counted<W: Write + Faults>(
     alloc: Global,

@@ -4,10 +4,10 @@ ghost use Rattle.std.specs.Prelude.{◌≤◌};
 use crate::choice::Options;
 use crate::command_line::{Refusal, read_words};
 use crate::options_error::OptionsError;
-use crate::standard::held;
+use crate::standard::{held, reader_of_errors};
 use node_commands::{Link, RoundSize, join, round, serve};
 use peers_devices::{Counting, Faults, write_all};
-use staying_node::run;
+use staying_node::{check_input, run};
 use std::alloc::{AllocError, Global};
 use std::fs::Files;
 use std::io::{ErrorKind, Read, Write};
@@ -16,7 +16,7 @@ use std::sync::Wait;
 use std::thread::Threads;
 use std::time::Clock;
 use std::{env, process};
-use text_commands::{Ending, check, check_configuration, learn, lesson, table, world};
+use text_commands::{Ending, check, learn, lesson, table, world};
 
 /// The exit status if the command line is refused or asks for help.
 const WORDS: u8 = 2;
@@ -109,6 +109,7 @@ where
         Ok(Options::Run { checks: true }) => run_configuration_check(alloc, &mut input, errors),
         Ok(Options::Run { checks: false }) => {
             let log = Counting::new(rt.stderr());
+            let _reader = reader_of_errors(rt);
             let pid = process::id(rt.process());
             run_node(runner, alloc, pid, &mut input, errors, log)
         }
@@ -178,7 +179,7 @@ fn run_configuration_check<I: Read + Faults, E: Write + Faults>(
     input: &mut I,
     errors: &mut E,
 ) -> u8 {
-    check_configuration(alloc, input, errors).status()
+    check_input(alloc, input, errors).status()
 }
 
 #[inline(never)]

@@ -2,14 +2,18 @@
 
 use std::alloc::Global;
 use std::fs::File;
-use std::io;
 use std::os::fd::AsRawFd;
+use std::os::unix::fs::FileTypeExt;
+use std::{fs, io};
 
 /// The descriptor of standard input.
 const INPUT: i32 = 0;
 
 /// How many descriptors are standard ones: those of input, output and errors.
 const STANDARD: i32 = 3;
+
+/// Where the system shows what standard error is.
+const ERRORS: &str = "/proc/self/fd/2";
 
 /// Opens the null device, which gets the lowest descriptor that is free. In the place of standard input it can't be read, and in that of
 /// standard output or standard error it can't be written on, so each fails as if it were closed.
@@ -35,4 +39,14 @@ pub(crate) fn held(rt: &HostRuntime, alloc: Global) -> Vec<File> {
         }
     }
     held
+}
+
+/// Opens the end at which standard error is read, if it is a pipe that this process may read. While that is held the pipe has a reader: the
+/// system ends a process that writes to one without. If nobody else reads, the pipe fills, and takes nothing more.
+pub(crate) fn reader_of_errors(rt: &HostRuntime) -> Option<File> {
+    let found = fs::metadata(rt, ERRORS).ok()?;
+    if !found.file_type().is_fifo() {
+        return None;
+    }
+    File::open(rt, ERRORS).ok()
 }

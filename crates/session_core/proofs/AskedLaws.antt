@@ -14,6 +14,9 @@ use Rattle.session_core.specs.Sessions.{SessionState, Goes, GoesIn, GoesNew, Goe
 asked_new : (s : SessionState) (hello : Hello) (c : Course) (event : Event) (acts : List Action) (e : SessionState) → GoesNew s hello c event acts e → is_asked_new event ≡ true
 asked_new s hello c events.Opened acts e goes = refl
 asked_new s hello c events.Turn acts e goes = refl
+asked_new s hello c events.Tick acts e goes = refl
+asked_new s hello c events.Ask acts e goes = refl
+asked_new s hello c events.CaughtUp acts e goes = refl
 asked_new s hello c events.End acts e goes = refl
 asked_new s hello c events.ReadFault acts e goes = refl
 asked_new s hello c events.WriteFault acts e goes = refl
@@ -27,6 +30,9 @@ asked_new s hello c (events.Refused table) acts e goes = absurd goes
 asked_hello : (s : SessionState) (greeter : Greeter) (bytes : List ℕ) (c : Course) (event : Event) (acts : List Action) (e : SessionState) → GoesHello s greeter bytes c event acts e → is_asked_hello event ≡ true
 asked_hello s greeter bytes c (events.Bytes piece) acts e goes = refl
 asked_hello s greeter bytes c events.Turn acts e goes = refl
+asked_hello s greeter bytes c events.Tick acts e goes = refl
+asked_hello s greeter bytes c events.Ask acts e goes = refl
+asked_hello s greeter bytes c events.CaughtUp acts e goes = refl
 asked_hello s greeter bytes c events.End acts e goes = refl
 asked_hello s greeter bytes c events.ReadFault acts e goes = refl
 asked_hello s greeter bytes c events.WriteFault acts e goes = refl
@@ -39,6 +45,9 @@ asked_hello s greeter bytes c (events.Refused table) acts e goes = absurd goes
 
 asked_open : (s : SessionState) (c : Course) (event : Event) (acts : List Action) (e : SessionState) → GoesOpen s c event acts e → is_asked_open c.due event ≡ true
 asked_open s c events.Turn acts e (none, turns) = rw none refl
+asked_open s c events.Tick acts e (none, stays) = rw none refl
+asked_open s c events.Ask acts e (none, stays) = rw none refl
+asked_open s c events.CaughtUp acts e (none, stays) = rw none refl
 asked_open s c (events.Bytes bytes) acts e (none, receives) = rw none refl
 asked_open s c (events.Copied table batch) acts e (mid, answered, copied) = rw answered.0 (eq-eqb table table refl)
 asked_open s c (events.Nothing table) acts e (mid, answered, nothing) = rw answered.0 (eq-eqb table table refl)

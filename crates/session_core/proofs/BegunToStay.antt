@@ -44,8 +44,9 @@ use Rattle.session_core.specs.Courses.{Course, course_begun, staying, course_fed
 use Rattle.session_core.specs.Sessions.{SessionState, going, Concludes, ReceivesBytes, first_word, IsWelcomed, Connects, Accepts, Greets, GoesIn, GoesNew, GoesHello, GoesOpen, Turns, HasNothing, FinishesResync, StartsPendingResync, Settles, opening, speaking}
 use Rattle.session_core.specs.Runs.{IsBegun}
 use Rattle.session_core.specs.Paces.{Pace, has_passed, push_time, is_rested, inferred, awaits_names}
-use Rattle.session_core.specs.Standing.{StandingState, is_open, is_reopen, changed, finished_if, finishing, Does, task_at, TakesTurn, Writes, Stands, without_tables, leaving, TicksIn, caught_up_in}
-use Rattle.session_core.specs.StandingRuns.{Happening, At, Tick, Ask, CatchUp, Happens, Lasts, BeginsToStay}
+use Rattle.session_core.specs.Standing.{StandingState, is_open, is_reopen, changed, finished_if, finishing, Does, task_at, TakesTurn, Writes, Stands, without_tables, leaving, TicksIn, word_of}
+use Rattle.session_core.specs.Happenings.{Happening}
+use Rattle.session_core.proofs.MachineRuns.{Happens, Lasts, BeginsToStay}
 use Rattle.session_core.proofs.StandingTimes.{begins_rested}
 
 -- ---- the beginning
@@ -230,6 +231,9 @@ hears_stays c phases.Ended stays hears = tt
 plain_new : (s : SessionState) (hello : Hello) (c : Course) (event : Event) (acts : List Action) (e : SessionState) → c.stays ≡ true → GoesNew s hello c event acts e → IsPlain acts e
 plain_new s hello c events.Opened acts e stays (is, ends) = plain_at acts _ e _ is ends refl stays
 plain_new s hello c events.Turn acts e stays (is, ends) = plain_at acts _ e _ is ends refl stays
+plain_new s hello c events.Tick acts e stays (is, ends) = plain_at acts _ e _ is ends refl stays
+plain_new s hello c events.Ask acts e stays (is, ends) = plain_at acts _ e _ is ends refl stays
+plain_new s hello c events.CaughtUp acts e stays (is, ends) = plain_at acts _ e _ is ends refl stays
 plain_new s hello c events.End acts e stays (is, ends) = plain_at acts _ e _ is ends refl tt
 plain_new s hello c events.ReadFault acts e stays (is, ends) = plain_at acts _ e _ is ends refl tt
 plain_new s hello c events.WriteFault acts e stays (is, ends) = plain_at acts _ e _ is ends refl tt
@@ -273,6 +277,9 @@ answered_stays c mid is stays = ap (λ (x : Course). x.stays) is ∙ stays
 
 plain_open : (s : SessionState) (c : Course) (event : Event) (acts : List Action) (e : SessionState) → c.stays ≡ true → GoesOpen s c event acts e → IsPlain acts e
 plain_open s c events.Turn acts e stays (due, turns) = plain_turns (table_to_ask c) s c acts e stays turns
+plain_open s c events.Tick acts e stays (due, (is, ends)) = plain_at acts _ e _ is ends refl stays
+plain_open s c events.Ask acts e stays (due, (is, ends)) = plain_at acts _ e _ is ends refl stays
+plain_open s c events.CaughtUp acts e stays (due, (is, ends)) = plain_at acts _ e _ is ends refl stays
 plain_open s c (events.Bytes bytes) acts e stays (due, receives) =
     let heard = heard_open s c bytes acts e stays receives in
     (heard.0, hears_stays c e.phase stays heard.1)
@@ -334,20 +341,23 @@ paced_turn phases.Ended s e now acts opens stays (goes, paces) = paced_plain s e
 
 -- ---- each event
 
--- the session goes on to stay, and something is reopened only at a turn, or if a session opens with version 2.0
+-- the session goes on to stay, and something is reopened only at a turn or a tick, or if a session opens with version 2.0
 abbrev pub IsRare : Event → Phase → List Action → SessionState → Type 0
-IsRare event phase acts e = StaysOn e.phase × ((list_any is_reopen acts ≡ false) ⊎ ((event ≡ events.Turn) ⊎ ((is_open phase ≡ false) × (e.version ≡ Some versions.V20))))
+IsRare event phase acts e = StaysOn e.phase × ((list_any is_reopen acts ≡ false) ⊎ ((event ≡ events.Turn) ⊎ ((event ≡ events.Tick) ⊎ ((is_open phase ≡ false) × (e.version ≡ Some versions.V20)))))
 
 rarely : (event : Event) (phase : Phase) (acts : List Action) (e : SessionState) → IsPlain acts e → IsRare event phase acts e
 rarely event phase acts e plain = (plain.1, inl plain.0)
 
 rare_greeted : (event : Event) (greeter : Greeter) (bytes : List ℕ) (c : Course) (acts : List Action) (e : SessionState) → c.stays ≡ true → IsGreeted c acts e → IsRare event (phases.Hello greeter bytes c) acts e
 rare_greeted event greeter bytes c acts e stays (inl none, hears) = (hears_stays c e.phase stays hears, inl none)
-rare_greeted event greeter bytes c acts e stays (inr says, hears) = (hears_stays c e.phase stays hears, inr (inr (refl, says)))
+rare_greeted event greeter bytes c acts e stays (inr says, hears) = (hears_stays c e.phase stays hears, inr (inr (inr (refl, says))))
 
 rare_hello : (at : Event) (s : SessionState) (greeter : Greeter) (bytes : List ℕ) (c : Course) (event : Event) (acts : List Action) (e : SessionState) → c.stays ≡ true → GoesHello s greeter bytes c event acts e → IsRare at (phases.Hello greeter bytes c) acts e
 rare_hello at s greeter bytes c (events.Bytes piece) acts e stays goes = rare_greeted at greeter bytes c acts e stays (greeted s greeter (bytes ++ piece) c acts e stays goes)
 rare_hello at s greeter bytes c events.Turn acts e stays (is, ends) = rarely at (phases.Hello greeter bytes c) acts e (plain_at acts _ e _ is ends refl stays)
+rare_hello at s greeter bytes c events.Tick acts e stays (is, ends) = rarely at (phases.Hello greeter bytes c) acts e (plain_at acts _ e _ is ends refl stays)
+rare_hello at s greeter bytes c events.Ask acts e stays (is, ends) = rarely at (phases.Hello greeter bytes c) acts e (plain_at acts _ e _ is ends refl stays)
+rare_hello at s greeter bytes c events.CaughtUp acts e stays (is, ends) = rarely at (phases.Hello greeter bytes c) acts e (plain_at acts _ e _ is ends refl stays)
 rare_hello at s greeter bytes c events.End acts e stays (is, ends) = rarely at (phases.Hello greeter bytes c) acts e (plain_at acts _ e _ is ends refl tt)
 rare_hello at s greeter bytes c events.ReadFault acts e stays (is, ends) = rarely at (phases.Hello greeter bytes c) acts e (plain_at acts _ e _ is ends refl tt)
 rare_hello at s greeter bytes c events.WriteFault acts e stays (is, ends) = rarely at (phases.Hello greeter bytes c) acts e (plain_at acts _ e _ is ends refl tt)
@@ -373,21 +383,6 @@ plain_writes (phases.New hello c) s e now known acts stays writes = absurd write
 plain_writes (phases.Hello greeter bytes c) s e now known acts stays writes = absurd writes
 plain_writes phases.Ended s e now known acts stays writes = absurd writes
 
-pub rare_stands : (event : Event) (s e : StandingState) (now : ℕ) (acts : List Action) → StaysOn s.session.phase → Stands s now event acts e → IsRare event s.session.phase acts e.session
-rare_stands events.Turn s e now acts stays turns = ((paced_turn s.session.phase s e now acts refl stays turns).0, inr (inl refl))
-rare_stands (events.Written known) s e now acts stays writes = rarely (events.Written known) s.session.phase acts e.session (plain_writes s.session.phase s e now known acts stays writes)
-rare_stands (events.Bytes bytes) s e now acts stays (goes, paces) = rare_in (events.Bytes bytes) s.session.phase s.session (events.Bytes bytes) acts e.session stays goes
-rare_stands (events.Refused table) s e now acts stays (goes, paces) = rare_in (events.Refused table) s.session.phase s.session _ acts e.session stays goes
-rare_stands (events.Copied table batch) s e now acts stays (goes, paces) = rare_in (events.Copied table batch) s.session.phase s.session (events.Copied table batch) acts e.session stays goes
-rare_stands events.Opened s e now acts stays (goes, paces) = rare_in events.Opened s.session.phase s.session events.Opened acts e.session stays goes
-rare_stands events.End s e now acts stays (goes, paces) = rare_in events.End s.session.phase s.session events.End acts e.session stays goes
-rare_stands events.ReadFault s e now acts stays (goes, paces) = rare_in events.ReadFault s.session.phase s.session events.ReadFault acts e.session stays goes
-rare_stands events.WriteFault s e now acts stays (goes, paces) = rare_in events.WriteFault s.session.phase s.session events.WriteFault acts e.session stays goes
-rare_stands (events.Nothing table) s e now acts stays (goes, paces) = rare_in (events.Nothing table) s.session.phase s.session (events.Nothing table) acts e.session stays goes
-rare_stands (events.Settled table settled) s e now acts stays (goes, paces) = rare_in (events.Settled table settled) s.session.phase s.session (events.Settled table settled) acts e.session stays goes
-
--- ---- ticks, and a node that becomes up to date
-
 leaving_stays : (left : List ℕ) (c : Course) → (leaving left c).1.stays ≡ c.stays
 leaving_stays [] c = refl
 leaving_stays (table ∷ tables) c = finishing_stays (without_tables (table ∷ tables) c)
@@ -399,17 +394,24 @@ stays_ticks false (phases.New hello c) s e now left acts stands stays (leaves, i
 stays_ticks false (phases.Hello greeter bytes c) s e now left acts stands stays (leaves, is, same) = stays_still s e same stays
 stays_ticks false phases.Ended s e now left acts stands stays (leaves, is, same) = stays_still s e same stays
 
-stays_caught : (left : Bool) (phase : Phase) → StaysOn phase → StaysOn (changed (caught_up_in left) phase)
-stays_caught left (phases.New hello c) stays = stays
-stays_caught left (phases.Hello greeter bytes c) stays = stays
-stays_caught left (phases.Open c) stays = stays
-stays_caught left phases.Ended stays = tt
+pub rare_stands : (event : Event) (s e : StandingState) (now : ℕ) (acts : List Action) → StaysOn s.session.phase → Stands s now event acts e → IsRare event s.session.phase acts e.session
+rare_stands events.Turn s e now acts stays turns = ((paced_turn s.session.phase s e now acts refl stays turns).0, inr (inl refl))
+rare_stands (events.Written known) s e now acts stays writes = rarely (events.Written known) s.session.phase acts e.session (plain_writes s.session.phase s e now known acts stays writes)
+rare_stands (events.Bytes bytes) s e now acts stays (goes, paces) = rare_in (events.Bytes bytes) s.session.phase s.session (events.Bytes bytes) acts e.session stays goes
+rare_stands (events.Refused table) s e now acts stays (goes, paces) = rare_in (events.Refused table) s.session.phase s.session _ acts e.session stays goes
+rare_stands (events.Copied table batch) s e now acts stays (goes, paces) = rare_in (events.Copied table batch) s.session.phase s.session (events.Copied table batch) acts e.session stays goes
+rare_stands events.Opened s e now acts stays (goes, paces) = rare_in events.Opened s.session.phase s.session events.Opened acts e.session stays goes
+rare_stands events.Ask s e now acts stays (goes, paces) = rare_in events.Ask s.session.phase s.session events.Ask acts e.session stays goes
+rare_stands events.CaughtUp s e now acts stays (goes, paces) = rare_in events.CaughtUp s.session.phase s.session (word_of s.pace.left) acts e.session stays goes
+rare_stands events.Tick s e now acts stays (asked, (left, rest, ticks, is)) = (stays_ticks _ s.session.phase s e now left rest refl stays ticks, inr (inr (inl refl)))
+rare_stands events.End s e now acts stays (goes, paces) = rare_in events.End s.session.phase s.session events.End acts e.session stays goes
+rare_stands events.ReadFault s e now acts stays (goes, paces) = rare_in events.ReadFault s.session.phase s.session events.ReadFault acts e.session stays goes
+rare_stands events.WriteFault s e now acts stays (goes, paces) = rare_in events.WriteFault s.session.phase s.session events.WriteFault acts e.session stays goes
+rare_stands (events.Nothing table) s e now acts stays (goes, paces) = rare_in (events.Nothing table) s.session.phase s.session (events.Nothing table) acts e.session stays goes
+rare_stands (events.Settled table settled) s e now acts stays (goes, paces) = rare_in (events.Settled table settled) s.session.phase s.session (events.Settled table settled) acts e.session stays goes
 
 pub stays_happens : (one : Happening) (s e : StandingState) → StaysOn s.session.phase → Happens s one e → StaysOn e.session.phase
-stays_happens (At now event acts) s e stays stands = (rare_stands event s e now acts stays stands).0
-stays_happens (Tick now left acts) s e stays (asked, ticks) = stays_ticks _ s.session.phase s e now left acts refl stays ticks
-stays_happens (Ask now) s e stays sent = subst (λ (x : StandingState). StaysOn x.session.phase) (sym sent) stays
-stays_happens CatchUp s e stays caught = subst (λ (x : StandingState). StaysOn x.session.phase) (sym caught) (stays_caught s.pace.left s.session.phase stays)
+stays_happens one s e stays happens = (rare_stands one.event s e one.now one.acts stays happens).0
 
 -- ---- runs
 

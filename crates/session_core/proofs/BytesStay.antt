@@ -1,7 +1,6 @@
 -- A session that holds only bytes goes on to hold only bytes.
 use Rattle.std.proofs.Common.{◌≡◌, ℕ, zero, suc, ◌<◌, Bool, true, false, List, [], ◌∷◌, ◌++◌, Option, Some, None, Ok, Err, sym, subst, arith, inl, inr}
 use Rattle.std.specs.Prelude.{drop, slice_index}
-use Rattle.std.specs.List.{AllByRecursion}
 use Rattle.table_types.specs.Tables.{Definition}
 use Rattle.table_types.specs.declared.copies.Settled.{Settled}
 use Rattle.table_types.specs.declared.copies.Settled.TheVariants as settles
@@ -27,7 +26,7 @@ use Rattle.session_core.specs.Phases.{Phase}
 use Rattle.session_core.specs.Phases as phases
 use Rattle.session_core.specs.Actions.{sends_control, status_text}
 use Rattle.session_core.specs.Courses.{Course, course_fed, table_to_ask}
-use Rattle.session_core.specs.Runs.{BringsBytes, HoldsBytes, IsBegun, Runs}
+use Rattle.session_core.specs.Runs.{BringsBytes, HoldsBytes, IsBegun}
 use Rattle.session_core.specs.Sessions.{SessionState, Accepts, Connects, FinishesResync, Goes, GoesHello, GoesIn, GoesNew, GoesOpen, Greets, HasNothing, IsWelcomed, ReceivesBytes, Settles, StartsPendingResync, Turns, first_word, opening, speaking}
 use Rattle.session_core.proofs.ReceivingGoesOn.{received_good}
 
@@ -53,6 +52,9 @@ held_received s e c first acts good (Err halts.Memory, given, mid, receives, con
 held_new : (s e : SessionState) (hello : Hello) (c : Course) (event : Event) (acts : List Action) → IsBytes c.intake.unread → GoesNew s hello c event acts e → HoldsBytes e.phase
 held_new s e hello c events.Opened acts good (is, ends) = held e _ ends ((λ i. omega arith), good)
 held_new s e hello c events.Turn acts good (is, ends) = held e _ ends good
+held_new s e hello c events.Tick acts good (is, ends) = held e _ ends good
+held_new s e hello c events.Ask acts good (is, ends) = held e _ ends good
+held_new s e hello c events.CaughtUp acts good (is, ends) = held e _ ends good
 held_new s e hello c events.End acts good (is, ends) = held e _ ends tt
 held_new s e hello c events.ReadFault acts good (is, ends) = held e _ ends tt
 held_new s e hello c events.WriteFault acts good (is, ends) = held e _ ends tt
@@ -89,6 +91,9 @@ held_greets (greeters.Accepts own peers) s e bytes c acts good unread goes = hel
 held_hello : (s e : SessionState) (greeter : Greeter) (bytes : List ℕ) (c : Course) (event : Event) (acts : List Action) → IsBytes bytes × IsBytes c.intake.unread → BringsBytes event → GoesHello s greeter bytes c event acts e → HoldsBytes e.phase
 held_hello s e greeter bytes c (events.Bytes piece) acts holds brings goes = held_greets greeter s e (bytes ++ piece) c acts (append_good bytes piece holds.0 brings) holds.1 goes
 held_hello s e greeter bytes c events.Turn acts holds brings (is, ends) = held e _ ends holds
+held_hello s e greeter bytes c events.Tick acts holds brings (is, ends) = held e _ ends holds
+held_hello s e greeter bytes c events.Ask acts holds brings (is, ends) = held e _ ends holds
+held_hello s e greeter bytes c events.CaughtUp acts holds brings (is, ends) = held e _ ends holds
 held_hello s e greeter bytes c events.End acts holds brings (is, ends) = held e _ ends tt
 held_hello s e greeter bytes c events.ReadFault acts holds brings (is, ends) = held e _ ends tt
 held_hello s e greeter bytes c events.WriteFault acts holds brings (is, ends) = held e _ ends tt
@@ -122,6 +127,9 @@ held_settles settles.Older s e c table acts good (is, ends) = held e _ ends good
 
 held_open : (s e : SessionState) (c : Course) (event : Event) (acts : List Action) → IsBytes c.intake.unread → BringsBytes event → GoesOpen s c event acts e → HoldsBytes e.phase
 held_open s e c events.Turn acts good brings (none, turns) = held_turns (table_to_ask c) s e c acts good turns
+held_open s e c events.Tick acts good brings (none, (is, ends)) = held e _ ends good
+held_open s e c events.Ask acts good brings (none, (is, ends)) = held e _ ends good
+held_open s e c events.CaughtUp acts good brings (none, (is, ends)) = held e _ ends good
 held_open s e c (events.Bytes bytes) acts good brings (none, receives) =
     held_received s e (course_fed c bytes) [] acts (append_good c.intake.unread bytes good brings) receives
 held_open s e c (events.Copied table batch) acts good brings (mid, answered, (is, ends)) = held e _ ends (answered_good c mid mid.due answered.1 good)
@@ -143,15 +151,8 @@ held_in phases.Ended s e event acts holds brings goes = absurd goes
 pub step_holds : (s e : SessionState) (event : Event) (acts : List Action) → HoldsBytes s.phase → BringsBytes event → Goes s event acts e → HoldsBytes e.phase
 step_holds s e event acts holds brings goes = held_in s.phase s e event acts holds brings goes
 
--- ---- runs
+-- ---- the beginning
 
-begun_holds : (roster : List Definition) (s : SessionState) → IsBegun roster s → HoldsBytes s.phase
+pub begun_holds : (roster : List Definition) (s : SessionState) → IsBegun roster s → HoldsBytes s.phase
 begun_holds roster s (inl (hello, up_to_date, is)) = held s _ is (λ i. omega arith)
 begun_holds roster s (inr (own, peers, up_to_date, is)) = held s _ is ((λ i. omega arith), (λ i. omega arith))
-
-runs_hold : (s e : SessionState) (steps : List (Event × List Action)) → HoldsBytes s.phase → AllByRecursion (λ step. BringsBytes step.0) steps → Runs s steps e → HoldsBytes e.phase
-runs_hold s e [] holds all here = held e s here holds
-runs_hold s e (step ∷ steps) holds (brings, all) (mid, goes, runs) = runs_hold mid e steps (step_holds s mid step.0 step.1 holds brings goes) all runs
-
-pub run_holds : (roster : List Definition) (begun s : SessionState) (steps : List (Event × List Action)) → IsBegun roster begun → Runs begun steps s → AllByRecursion (λ step. BringsBytes step.0) steps → HoldsBytes s.phase
-run_holds roster begun s steps begins runs all = runs_hold begun s steps (begun_holds roster begun begins) all runs

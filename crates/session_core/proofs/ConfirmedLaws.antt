@@ -28,7 +28,8 @@ use Rattle.session_core.specs.declared.share.Share.{Share}
 use Rattle.session_core.specs.Actions.{confirms, reopens, sends_control, status_text}
 use Rattle.session_core.specs.Courses.{Course, course_fed, table_to_ask, finished}
 use Rattle.session_core.specs.Sessions.{SessionState, GoesIn, GoesNew, GoesHello, GoesOpen, Concludes, ReceivesBytes, IsWelcomed, Connects, Accepts, Greets, Turns, HasNothing, FinishesResync, StartsPendingResync, Settles, first_word, opening, speaking}
-use Rattle.session_core.specs.Runs.{Runs, IsBegun, was_confirmed}
+use Rattle.session_core.specs.Runs.{IsBegun, was_confirmed}
+use Rattle.session_core.proofs.MachineRuns.{Runs}
 use Rattle.session_core.proofs.EndLemmas.{no_control}
 
 pub or_none : (b : Bool) → b ≡ (b || false)
@@ -61,6 +62,9 @@ said_receives s c first acts e (result, given, mid, receives, concludes) = said_
 said_new : (s : SessionState) (hello : Hello) (c : Course) (event : Event) (acts : List Action) (e : SessionState) → GoesNew s hello c event acts e → IsSaid s acts e
 said_new s hello c events.Opened acts e (is, ends) = unsaid s e _ acts _ is refl ends refl
 said_new s hello c events.Turn acts e (is, ends) = unsaid s e _ acts [] is refl ends refl
+said_new s hello c events.Tick acts e (is, ends) = unsaid s e _ acts [] is refl ends refl
+said_new s hello c events.Ask acts e (is, ends) = unsaid s e _ acts [] is refl ends refl
+said_new s hello c events.CaughtUp acts e (is, ends) = unsaid s e _ acts [] is refl ends refl
 said_new s hello c events.End acts e (is, ends) = unsaid s e _ acts (actions.Close ∷ []) is refl ends refl
 said_new s hello c events.ReadFault acts e (is, ends) = unsaid s e _ acts (actions.Close ∷ []) is refl ends refl
 said_new s hello c events.WriteFault acts e (is, ends) = unsaid s e _ acts (actions.Close ∷ []) is refl ends refl
@@ -95,6 +99,9 @@ said_greets s (greeters.Accepts own peers) bytes c acts e goes = said_accepts (a
 said_hello : (s : SessionState) (greeter : Greeter) (bytes : List ℕ) (c : Course) (event : Event) (acts : List Action) (e : SessionState) → GoesHello s greeter bytes c event acts e → IsSaid s acts e
 said_hello s greeter bytes c (events.Bytes piece) acts e goes = said_greets s greeter (bytes ++ piece) c acts e goes
 said_hello s greeter bytes c events.Turn acts e (is, ends) = unsaid s e _ acts [] is refl ends refl
+said_hello s greeter bytes c events.Tick acts e (is, ends) = unsaid s e _ acts [] is refl ends refl
+said_hello s greeter bytes c events.Ask acts e (is, ends) = unsaid s e _ acts [] is refl ends refl
+said_hello s greeter bytes c events.CaughtUp acts e (is, ends) = unsaid s e _ acts [] is refl ends refl
 said_hello s greeter bytes c events.End acts e (is, ends) = unsaid s e _ acts (actions.Close ∷ []) is refl ends refl
 said_hello s greeter bytes c events.ReadFault acts e (is, ends) = unsaid s e _ acts (actions.Close ∷ []) is refl ends refl
 said_hello s greeter bytes c events.WriteFault acts e (is, ends) = unsaid s e _ acts (actions.Close ∷ []) is refl ends refl
@@ -136,6 +143,9 @@ said_nothing false s c table acts e (is, ends) = unsaid s e _ acts [] is refl en
 
 said_open : (s : SessionState) (c : Course) (event : Event) (acts : List Action) (e : SessionState) → GoesOpen s c event acts e → IsSaid s acts e
 said_open s c events.Turn acts e (none, turns) = said_turns (table_to_ask c) s c acts e turns
+said_open s c events.Tick acts e (none, (is, ends)) = unsaid s e _ acts _ is refl ends refl
+said_open s c events.Ask acts e (none, (is, ends)) = unsaid s e _ acts _ is refl ends refl
+said_open s c events.CaughtUp acts e (none, (is, ends)) = unsaid s e _ acts _ is refl ends refl
 said_open s c (events.Bytes bytes) acts e (none, receives) = said_receives s (course_fed c bytes) [] acts e receives
 said_open s c (events.Copied table batch) acts e (mid, answered, (is, ends)) = unsaid s e _ acts (actions.Teach batch ∷ []) is refl ends refl
 said_open s c (events.Nothing table) acts e (mid, answered, nothing) = said_nothing mid.teaching s mid table acts e nothing

@@ -17,7 +17,7 @@ use Rattle.session_core.specs.HeardCounts.{CountsAfter, CountsBytes, CountsEvent
 use Rattle.session_core.proofs.StepIsUnique.{Ends, all_received_once}
 
 -- how the messages of a course end
-ending : (e : Course) → AwaitsMore e ⊎ ((halt : Halt) × (halt ≢ halts.Memory) × IsHalted e halt) → (end : Result (Unit {0}) Halt) × Ends e end
+pub ending : (e : Course) → AwaitsMore e ⊎ ((halt : Halt) × (halt ≢ halts.Memory) × IsHalted e halt) → (end : Result (Unit {0}) Halt) × Ends e end
 ending e (inl waits) = (Ok tt, waits)
 ending e (inr (halts.Failed, wanted, halted)) = (Err halts.Failed, halted)
 ending e (inr (halts.Fault fault, wanted, halted)) = (Err (halts.Fault fault), halted)
@@ -51,6 +51,9 @@ pub counted_once : (event : Event) (phase : Phase) (n m k : Heard) → CountsEve
 counted_once (events.Bytes bytes) phase n m k counts again = in_once phase bytes n m k counts again
 counted_once events.Opened phase n m k is same = is ∙ sym same
 counted_once events.Turn phase n m k is same = is ∙ sym same
+counted_once events.Tick phase n m k is same = is ∙ sym same
+counted_once events.Ask phase n m k is same = is ∙ sym same
+counted_once events.CaughtUp phase n m k is same = is ∙ sym same
 counted_once (events.Copied table batch) phase n m k is same = is ∙ sym same
 counted_once (events.Nothing table) phase n m k is same = is ∙ sym same
 counted_once (events.Written known) phase n m k is same = is ∙ sym same

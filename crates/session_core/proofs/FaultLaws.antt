@@ -25,7 +25,8 @@ use Rattle.session_core.specs.Phases as phases
 use Rattle.session_core.specs.Actions.{sends_control, status_text}
 use Rattle.session_core.specs.Courses.{Course, course_fed, table_to_ask}
 use Rattle.session_core.specs.Sessions.{SessionState, GoesIn, GoesNew, GoesHello, GoesOpen, Concludes, ReceivesBytes, IsWelcomed, Connects, Accepts, Greets, Turns, HasNothing, FinishesResync, StartsPendingResync, Settles, first_word, opening, speaking}
-use Rattle.session_core.specs.Runs.{Runs, IsBegun}
+use Rattle.session_core.specs.Runs.{IsBegun}
+use Rattle.session_core.proofs.MachineRuns.{Runs}
 
 -- the session is over or has no fault
 abbrev pub IsFaultless : SessionState → Type 0
@@ -47,6 +48,9 @@ unfaulted_receives s c first acts e (result, given, mid, receives, concludes) no
 unfaulted_new : (s : SessionState) (hello : Hello) (c : Course) (event : Event) (acts : List Action) (e : SessionState) → GoesNew s hello c event acts e → s.fault ≡ None → IsFaultless e
 unfaulted_new s hello c events.Opened acts e (is, ends) none = keeps s e _ ends refl none
 unfaulted_new s hello c events.Turn acts e (is, ends) none = keeps s e _ ends refl none
+unfaulted_new s hello c events.Tick acts e (is, ends) none = keeps s e _ ends refl none
+unfaulted_new s hello c events.Ask acts e (is, ends) none = keeps s e _ ends refl none
+unfaulted_new s hello c events.CaughtUp acts e (is, ends) none = keeps s e _ ends refl none
 unfaulted_new s hello c events.End acts e (is, ends) none = keeps s e _ ends refl none
 unfaulted_new s hello c events.ReadFault acts e (is, ends) none = keeps s e _ ends refl none
 unfaulted_new s hello c events.WriteFault acts e (is, ends) none = keeps s e _ ends refl none
@@ -78,6 +82,9 @@ unfaulted_greets s (greeters.Accepts own peers) bytes c acts e goes none = unfau
 unfaulted_hello : (s : SessionState) (greeter : Greeter) (bytes : List ℕ) (c : Course) (event : Event) (acts : List Action) (e : SessionState) → GoesHello s greeter bytes c event acts e → s.fault ≡ None → IsFaultless e
 unfaulted_hello s greeter bytes c (events.Bytes piece) acts e goes none = unfaulted_greets s greeter (bytes ++ piece) c acts e goes none
 unfaulted_hello s greeter bytes c events.Turn acts e (is, ends) none = keeps s e _ ends refl none
+unfaulted_hello s greeter bytes c events.Tick acts e (is, ends) none = keeps s e _ ends refl none
+unfaulted_hello s greeter bytes c events.Ask acts e (is, ends) none = keeps s e _ ends refl none
+unfaulted_hello s greeter bytes c events.CaughtUp acts e (is, ends) none = keeps s e _ ends refl none
 unfaulted_hello s greeter bytes c events.End acts e (is, ends) none = keeps s e _ ends refl none
 unfaulted_hello s greeter bytes c events.ReadFault acts e (is, ends) none = keeps s e _ ends refl none
 unfaulted_hello s greeter bytes c events.WriteFault acts e (is, ends) none = keeps s e _ ends refl none
@@ -111,6 +118,9 @@ unfaulted_nothing false s c table acts e (is, ends) none = keeps s e _ ends refl
 
 unfaulted_open : (s : SessionState) (c : Course) (event : Event) (acts : List Action) (e : SessionState) → GoesOpen s c event acts e → s.fault ≡ None → IsFaultless e
 unfaulted_open s c events.Turn acts e (idle, turns) none = unfaulted_turns (table_to_ask c) s c acts e turns none
+unfaulted_open s c events.Tick acts e (idle, (is, ends)) none = keeps s e _ ends refl none
+unfaulted_open s c events.Ask acts e (idle, (is, ends)) none = keeps s e _ ends refl none
+unfaulted_open s c events.CaughtUp acts e (idle, (is, ends)) none = keeps s e _ ends refl none
 unfaulted_open s c (events.Bytes bytes) acts e (idle, receives) none = unfaulted_receives s (course_fed c bytes) [] acts e receives none
 unfaulted_open s c (events.Copied table batch) acts e (mid, answered, (is, ends)) none = keeps s e _ ends refl none
 unfaulted_open s c (events.Nothing table) acts e (mid, answered, nothing) none = unfaulted_nothing mid.teaching s mid table acts e nothing none

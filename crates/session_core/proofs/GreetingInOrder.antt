@@ -5,7 +5,6 @@ use Rattle.std.specs.List.{list_any}
 use Rattle.std.specs.Fmt.{decimal}
 use Rattle.std.proofs.lemmas.Bool.{false≢true}
 use Rattle.std.proofs.lemmas.List.{append-nil}
-use Rattle.table_types.specs.Tables.{Definition}
 use Rattle.table_types.specs.declared.version.Version.{Version}
 use Rattle.table_types.specs.declared.version.Version.TheVariants as versions
 use Rattle.peers_msg.specs.Integers.{IsBytes}
@@ -31,10 +30,11 @@ use Rattle.session_core.specs.Phases as phases
 use Rattle.session_core.specs.Actions.{confirms, sends_control, status_text}
 use Rattle.session_core.specs.Courses.{Course, course_fed}
 use Rattle.session_core.specs.Sessions.{Accepts, BecomesReady, Connects, GoesIn, Greets, IsWelcomed, ReceivesBytes, SessionState, ended, falling_back, falls_back, first_word, in_phase, opening, speaking}
-use Rattle.session_core.specs.Runs.{HoldsBytes, IsBegun, Runs}
+use Rattle.session_core.specs.Runs.{HoldsBytes}
 use Rattle.session_core.specs.Standing.{is_open, is_reopen}
 use Rattle.session_core.specs.Cutting.{IsFedOut}
-use Rattle.session_core.specs.Hearing.{Hears, asked_in, heard_in, passed_on, without_late}
+use Rattle.session_core.specs.Hearing.{asked_in, heard_in, passed_on, without_late}
+use Rattle.session_core.proofs.MachineRuns.{Hears}
 use Rattle.session_core.proofs.AnswersInOrder.{Sharing, fits_first, requested_in}
 use Rattle.session_core.proofs.EndLemmas.{no_control}
 use Rattle.peers_hello.specs.Meetings.{Meeting, Opens, Refuses, Stays, Waits, by_answer, by_status, opens_if}
@@ -43,7 +43,6 @@ use Rattle.session_core.proofs.HeardHoweverCut.{AreAlike, Comes, come_alike, con
 use Rattle.session_core.proofs.BytesStay.{append_good}
 use Rattle.session_core.proofs.ReadersGoOn.{fed, reading_of}
 use Rattle.session_core.proofs.MessagesInOrder.{course_of, passed_reopens, plain, plain_reopens}
-use Rattle.session_core.proofs.RunLaws.{none_due_in_hello}
 use Rattle.session_core.proofs.SameHoweverFed.{after_good}
 
 -- ---- one event
@@ -196,6 +195,9 @@ came settles c greeter ((events.Bytes piece, acts) ∷ steps) s e bytes left non
     (λ opens_so waits_so hears_so. came settles c greeter steps mid e (bytes ++ piece) left none unread good_so opens_so (λ over. waits_so) hears_so))
 came settles c greeter ((events.Settled table answer, acts) ∷ steps) s e bytes left none unread good opens waits (mid, rest, goes, (number, is_first, is_answer), hears) = cc
 came settles c greeter ((events.Turn, acts) ∷ steps) s e bytes left none unread good opens waits (mid, rest, goes, awaits, hears) = absurd awaits
+came settles c greeter ((events.Tick, acts) ∷ steps) s e bytes left none unread good opens waits (mid, rest, goes, awaits, hears) = absurd awaits
+came settles c greeter ((events.Ask, acts) ∷ steps) s e bytes left none unread good opens waits (mid, rest, goes, awaits, hears) = absurd awaits
+came settles c greeter ((events.CaughtUp, acts) ∷ steps) s e bytes left none unread good opens waits (mid, rest, goes, awaits, hears) = absurd awaits
 came settles c greeter ((events.Opened, acts) ∷ steps) s e bytes left none unread good opens waits (mid, rest, goes, awaits, hears) = absurd awaits
 came settles c greeter ((events.End, acts) ∷ steps) s e bytes left none unread good opens waits (mid, rest, goes, awaits, hears) = absurd awaits
 came settles c greeter ((events.ReadFault, acts) ∷ steps) s e bytes left none unread good opens waits (mid, rest, goes, awaits, hears) = absurd awaits
@@ -239,12 +241,11 @@ came_alike settles c s greeter bytes Waits acts given e end left over (nothing, 
   λ first second opens. absurd (false≢true (ap (λ (t : SessionState). is_open t.phase) (sym stays) ∙ opens)),
 )
 
-pub greeting_however_cut : (settles : ℕ → ℕ → Bool) (roster : List Definition) (begun s e end : SessionState) (before : List (Event × List Action)) (greeter : Greeter) (bytes : List ℕ) (c : Course) (step other : Event × List Action) (steps others : List (Event × List Action)) (more rest : List ℕ) (left over : List (ℕ × ℕ))
-    → IsBegun roster begun → Runs begun before s → s.phase ≡ phases.Hello greeter bytes c → HoldsBytes s.phase → IsBytes (heard_in (step ∷ steps) ++ more) → heard_in (step ∷ steps) ++ more ≡ heard_in (other ∷ others) ++ rest
+pub greeting_however_cut : (settles : ℕ → ℕ → Bool) (s e end : SessionState) (greeter : Greeter) (bytes : List ℕ) (c : Course) (step other : Event × List Action) (steps others : List (Event × List Action)) (more rest : List ℕ) (left over : List (ℕ × ℕ))
+    → c.due ≡ [] → s.phase ≡ phases.Hello greeter bytes c → HoldsBytes s.phase → IsBytes (heard_in (step ∷ steps) ++ more) → heard_in (step ∷ steps) ++ more ≡ heard_in (other ∷ others) ++ rest
     → Hears settles s [] (step ∷ steps) e left → Hears settles s [] (other ∷ others) end over → IsFedOut more e → IsFedOut rest end
     → AreAlike settles c s (asked_in (step ∷ steps)) (asked_in (other ∷ others)) e end left over
-greeting_however_cut settles roster begun s e end before greeter bytes c step other steps others more rest left over begins runs opens holds good cut one again out out' =
-    let none : c.due ≡ [] = none_due_in_hello roster begun s before greeter bytes c begins runs opens in
+greeting_however_cut settles s e end greeter bytes c step other steps others more rest left over none opens holds good cut one again out out' =
     let held : IsBytes bytes × IsBytes c.intake.unread = subst HoldsBytes opens holds in
     let first : List ℕ = heard_in (step ∷ steps) in
     let second : List ℕ = heard_in (other ∷ others) in

@@ -30,10 +30,11 @@ use Rattle.session_core.specs.Shares.{is_out}
 use Rattle.session_core.specs.Courses.{Course, AreReceived, AwaitsMore, acks_given, acks_sent}
 use Rattle.session_core.specs.Sessions.{Concludes, Goes, GoesIn, GoesOpen, ReceivesBytes, SessionState, Settles, StartsPendingResync, ended, going, kind_of_fault}
 use Rattle.session_core.specs.Standing.{is_open, is_reopen, shared, without_reopens}
-use Rattle.session_core.specs.StandingSteps.{is_all}
 use Rattle.session_core.specs.Cutting.{IsFedOut}
 use Rattle.session_core.specs.Runs.{HoldsBytes}
-use Rattle.session_core.specs.Hearing.{Awaits, Hears, asked_in, heard_in, passed_on, without_late}
+use Rattle.session_core.specs.Hearing.{Awaits, asked_in, heard_in, passed_on, without_late}
+use Rattle.session_core.specs.Happenings.{is_all}
+use Rattle.session_core.proofs.MachineRuns.{Hears}
 use Rattle.session_core.proofs.AnswersInOrder.{requested_in, Fits, Sharing, all_answered, answered_in, begins, begun_if, fits_answered, fits_first, freed, settled_if}
 use Rattle.session_core.proofs.EndLemmas.{silent_acks}
 use Rattle.session_core.proofs.BytesStay.{append_good}
@@ -385,6 +386,9 @@ follows_all settles c e left ((events.Bytes bytes, acts) ∷ steps) s x a k over
 follows_all settles c e left ((events.Settled table answer, acts) ∷ steps) s x a k over acks good waits same opens fits (mid, rest, goes, awaits, hears) =
     answer_comes settles c s mid e x a k over acks rest left table answer acts steps good waits same opens fits goes awaits (follows_all settles c e left steps) hears
 follows_all settles c e left ((events.Turn, acts) ∷ steps) s x a k over acks good waits same opens fits (mid, rest, goes, awaits, hears) = absurd awaits
+follows_all settles c e left ((events.Tick, acts) ∷ steps) s x a k over acks good waits same opens fits (mid, rest, goes, awaits, hears) = absurd awaits
+follows_all settles c e left ((events.Ask, acts) ∷ steps) s x a k over acks good waits same opens fits (mid, rest, goes, awaits, hears) = absurd awaits
+follows_all settles c e left ((events.CaughtUp, acts) ∷ steps) s x a k over acks good waits same opens fits (mid, rest, goes, awaits, hears) = absurd awaits
 follows_all settles c e left ((events.Opened, acts) ∷ steps) s x a k over acks good waits same opens fits (mid, rest, goes, awaits, hears) = absurd awaits
 follows_all settles c e left ((events.End, acts) ∷ steps) s x a k over acks good waits same opens fits (mid, rest, goes, awaits, hears) = absurd awaits
 follows_all settles c e left ((events.ReadFault, acts) ∷ steps) s x a k over acks good waits same opens fits (mid, rest, goes, awaits, hears) = absurd awaits
@@ -410,6 +414,9 @@ open_comes settles c s e (events.Bytes bytes, acts) steps left opens good (mid, 
     bytes_come settles c s mid e (reading_of c) (sharing_of c) (sharing_of c) [] [] rest left bytes acts steps (subst IsBytes grouped good) refl opens_so (fits_first settles (sharing_of c)) goes awaits (follows_all settles c e left steps) hears
 open_comes settles c s e (events.Settled table answer, acts) steps left opens good (mid, rest, goes, (number, is_first, is_answer), hears) = cc
 open_comes settles c s e (events.Turn, acts) steps left opens good (mid, rest, goes, awaits, hears) = absurd awaits
+open_comes settles c s e (events.Tick, acts) steps left opens good (mid, rest, goes, awaits, hears) = absurd awaits
+open_comes settles c s e (events.Ask, acts) steps left opens good (mid, rest, goes, awaits, hears) = absurd awaits
+open_comes settles c s e (events.CaughtUp, acts) steps left opens good (mid, rest, goes, awaits, hears) = absurd awaits
 open_comes settles c s e (events.Opened, acts) steps left opens good (mid, rest, goes, awaits, hears) = absurd awaits
 open_comes settles c s e (events.End, acts) steps left opens good (mid, rest, goes, awaits, hears) = absurd awaits
 open_comes settles c s e (events.ReadFault, acts) steps left opens good (mid, rest, goes, awaits, hears) = absurd awaits

@@ -18,10 +18,11 @@ use Rattle.session_core.specs.declared.phase.Greeter.{Greeter}
 use Rattle.session_core.specs.declared.phase.Greeter.TheVariants as greeters
 use Rattle.session_core.specs.Phases.{Phase}
 use Rattle.session_core.specs.Phases as phases
-use Rattle.session_core.specs.Courses.{Course, course_fed, table_to_ask}
+use Rattle.session_core.specs.Courses.{Course, course_fed, table_to_ask, caught_up}
 use Rattle.session_core.specs.Sessions.{Concludes, FinishesResync, GoesHello, GoesIn, GoesNew, GoesOpen, HasNothing, ReceivesBytes, SessionState, Settles, StartsPendingResync, Turns, accepting, connecting, opening, speaking}
-use Rattle.session_core.specs.Runs.{Runs, falls_back_in, version_in}
+use Rattle.session_core.specs.Runs.{falls_back_in, version_in}
 use Rattle.session_core.specs.Hearing.{bytes_of, heard_in}
+use Rattle.session_core.proofs.MachineRuns.{Runs}
 use Rattle.session_core.proofs.GreetedHoweverCut.{meeting}
 use Rattle.session_core.proofs.GreetingInOrder.{Met, finds, greets_meets, refusal}
 use Rattle.session_core.proofs.MessagesInOrder.{or_false}
@@ -74,6 +75,9 @@ stays_settled settles.Older s c table acts e (is, ends) = stays_at s e _ ends (r
 
 stays_open : (s : SessionState) (c : Course) (event : Event) (acts : List Action) (e : SessionState) → GoesOpen s c event acts e → Stays s e
 stays_open s c events.Turn acts e (none, turns) = stays_turned (table_to_ask c) s c acts e turns
+stays_open s c events.Tick acts e (none, (is, ends)) = stays_at s e _ ends (refl, refl, tt)
+stays_open s c events.Ask acts e (none, (is, ends)) = stays_at s e _ ends (refl, refl, tt)
+stays_open s c events.CaughtUp acts e (none, (is, ends)) = stays_at s e _ ends (refl, refl, tt)
 stays_open s c (events.Bytes bytes) acts e (none, receives) = stays_received s (course_fed c bytes) [] acts e receives
 stays_open s c (events.Copied table batch) acts e (mid, answered, (is, ends)) = stays_at s e _ ends (refl, refl, tt)
 stays_open s c (events.Nothing table) acts e (mid, answered, nothing) = stays_nothing mid.teaching s mid table acts e nothing
@@ -154,13 +158,16 @@ decides_first greeter bytes heard c s mid e acts Waits is undecided (nothing, st
 -- a step in Hello, and what follows
 pub decides_in_hello : (greeter : Greeter) (bytes heard : List ℕ) (c : Course) (s mid e : SessionState) (event : Event) (acts : List Action)
     → meeting greeter bytes ≡ Waits → IsOpen s → GoesHello s greeter bytes c event acts mid → After mid heard e
-    → ((more : List ℕ) → mid.phase ≡ phases.Hello greeter more c → meeting greeter more ≡ Waits → IsOpen mid → Decides greeter (meeting greeter (more ++ heard)) e)
+    → ((more : List ℕ) (course : Course) → mid.phase ≡ phases.Hello greeter more course → meeting greeter more ≡ Waits → IsOpen mid → Decides greeter (meeting greeter (more ++ heard)) e)
     → Decides greeter (meeting greeter (bytes ++ (bytes_of event ++ heard))) e
 decides_in_hello greeter bytes heard c s mid e (events.Bytes piece) acts waits undecided here after again =
     subst (λ (b : List ℕ). Decides greeter (meeting greeter b) e) (append_assoc bytes piece heard)
     (decides_first greeter (bytes ++ piece) heard c s mid e acts (meeting greeter (bytes ++ piece)) refl undecided (greets_meets greeter s (bytes ++ piece) c acts mid here) after
-    (λ waits_so stands_so so. again (bytes ++ piece) stands_so waits_so so))
-decides_in_hello greeter bytes heard c s mid e events.Turn acts waits undecided (is, ends) after again = again bytes (ap (λ (x : SessionState). x.phase) ends) waits (open_at s mid _ ends (refl, refl) undecided)
+    (λ waits_so stands_so so. again (bytes ++ piece) c stands_so waits_so so))
+decides_in_hello greeter bytes heard c s mid e events.Turn acts waits undecided (is, ends) after again = again bytes c (ap (λ (x : SessionState). x.phase) ends) waits (open_at s mid _ ends (refl, refl) undecided)
+decides_in_hello greeter bytes heard c s mid e events.Tick acts waits undecided (is, ends) after again = again bytes c (ap (λ (x : SessionState). x.phase) ends) waits (open_at s mid _ ends (refl, refl) undecided)
+decides_in_hello greeter bytes heard c s mid e events.Ask acts waits undecided (is, ends) after again = again bytes c (ap (λ (x : SessionState). x.phase) ends) waits (open_at s mid _ ends (refl, refl) undecided)
+decides_in_hello greeter bytes heard c s mid e events.CaughtUp acts waits undecided (is, ends) after again = again bytes (caught_up c) (ap (λ (x : SessionState). x.phase) ends) waits (open_at s mid _ ends (refl, refl) undecided)
 decides_in_hello greeter bytes heard c s mid e events.End acts waits undecided (is, ends) after again =
     cut_off greeter bytes heard mid e waits (ap (λ (x : SessionState). x.phase) ends) (open_at s mid _ ends (refl, refl) undecided) after
 decides_in_hello greeter bytes heard c s mid e events.ReadFault acts waits undecided (is, ends) after again =
@@ -181,16 +188,19 @@ decides [] s e greeter bytes c stands waits undecided here =
     subst (λ (m : Meeting). Decides greeter m e) (sym (ap (meeting greeter) (append-nil bytes) ∙ waits)) (open_at s e s here (refl, refl) undecided)
 decides ((event, acts) ∷ steps) s e greeter bytes c stands waits undecided (mid, goes, runs) =
     decides_in_hello greeter bytes (heard_in steps) c s mid e event acts waits undecided (subst (λ (p : Phase). GoesIn p s event acts mid) stands goes) (after_run steps mid e runs)
-    (λ more stands_so waits_so so. decides steps mid e greeter more c stands_so waits_so so runs)
+    (λ more course stands_so waits_so so. decides steps mid e greeter more course stands_so waits_so so runs)
 
 -- a step in New, and what follows
 pub decides_in_new : (hello : Hello) (heard : List ℕ) (c : Course) (s mid e : SessionState) (event : Event) (acts : List Action)
     → IsOpen s → GoesNew s hello c event acts mid → After mid heard e
     → (mid.phase ≡ phases.Hello (greeters.Connects hello.version) [] c → IsOpen mid → Decides (greeters.Connects hello.version) (meeting (greeters.Connects hello.version) heard) e)
-    → (mid.phase ≡ phases.New hello c → IsOpen mid → Decides (greeters.Connects hello.version) (meeting (greeters.Connects hello.version) heard) e)
+    → ((course : Course) → mid.phase ≡ phases.New hello course → IsOpen mid → Decides (greeters.Connects hello.version) (meeting (greeters.Connects hello.version) heard) e)
     → Decides (greeters.Connects hello.version) (meeting (greeters.Connects hello.version) (bytes_of event ++ heard)) e
 decides_in_new hello heard c s mid e events.Opened acts undecided (is, ends) after opened again = opened (ap (λ (x : SessionState). x.phase) ends) (open_at s mid _ ends (refl, refl) undecided)
-decides_in_new hello heard c s mid e events.Turn acts undecided (is, ends) after opened again = again (ap (λ (x : SessionState). x.phase) ends) (open_at s mid _ ends (refl, refl) undecided)
+decides_in_new hello heard c s mid e events.Turn acts undecided (is, ends) after opened again = again c (ap (λ (x : SessionState). x.phase) ends) (open_at s mid _ ends (refl, refl) undecided)
+decides_in_new hello heard c s mid e events.Tick acts undecided (is, ends) after opened again = again c (ap (λ (x : SessionState). x.phase) ends) (open_at s mid _ ends (refl, refl) undecided)
+decides_in_new hello heard c s mid e events.Ask acts undecided (is, ends) after opened again = again c (ap (λ (x : SessionState). x.phase) ends) (open_at s mid _ ends (refl, refl) undecided)
+decides_in_new hello heard c s mid e events.CaughtUp acts undecided (is, ends) after opened again = again (caught_up c) (ap (λ (x : SessionState). x.phase) ends) (open_at s mid _ ends (refl, refl) undecided)
 decides_in_new hello heard c s mid e events.End acts undecided (is, ends) after opened again =
     cut_off (greeters.Connects hello.version) [] heard mid e refl (ap (λ (x : SessionState). x.phase) ends) (open_at s mid _ ends (refl, refl) undecided) after
 decides_in_new hello heard c s mid e events.ReadFault acts undecided (is, ends) after opened again =
@@ -211,7 +221,7 @@ decides_new [] s e hello c stands undecided here = open_at s e s here (refl, ref
 decides_new ((event, acts) ∷ steps) s e hello c stands undecided (mid, goes, runs) =
     decides_in_new hello (heard_in steps) c s mid e event acts undecided (subst (λ (p : Phase). GoesIn p s event acts mid) stands goes) (after_run steps mid e runs)
     (λ stands_so so. decides steps mid e (greeters.Connects hello.version) [] c stands_so refl so runs)
-    (λ stands_so so. decides_new steps mid e hello c stands_so so runs)
+    (λ course stands_so so. decides_new steps mid e hello course stands_so so runs)
 
 -- ---- the law
 

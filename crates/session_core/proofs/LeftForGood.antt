@@ -1,5 +1,6 @@
 -- A table that was left is left for good.
 use Rattle.std.proofs.Common.{◌≡◌, ℕ, Bool, true, false, not, ◌&&◌, ◌||◌, ◌==◌, cond, List, [], ◌∷◌, ◌++◌, Option, Some, None, Result, Ok, Err, refl, sym, ap, ◌∙◌, subst, inl, inr, ◌⊎◌}
+use Rattle.session_core.specs.Runs.{reopened}
 use Rattle.std.specs.Prelude.{drop, filter, is_some}
 use Rattle.std.specs.List.{list_any}
 use Rattle.std.specs.Option.{option_or}
@@ -33,6 +34,7 @@ use Rattle.session_core.specs.declared.pace.Task.{Task}
 use Rattle.session_core.specs.declared.pace.Task.TheVariants as tasks
 use Rattle.session_core.specs.declared.phase.Greeter.{Greeter}
 use Rattle.session_core.specs.declared.phase.Greeter.TheVariants as greeters
+use Rattle.session_core.specs.declared.progress.Progress.{Progress}
 use Rattle.session_core.specs.declared.share.Share.{Share}
 use Rattle.session_core.specs.Phases.{Phase}
 use Rattle.session_core.specs.Phases as phases
@@ -42,9 +44,11 @@ use Rattle.session_core.specs.Acks.{ack_of}
 use Rattle.session_core.specs.Courses.{Course, course_fed, is_held, teaching_anew, requested, acknowledged, ack_received, said, message_received, AreReceived, ReceivesAll, acks_given, table_to_ask}
 use Rattle.session_core.specs.Sessions.{SessionState, going, Concludes, ReceivesBytes, first_word, IsWelcomed, Connects, Accepts, Greets, GoesIn, GoesNew, GoesHello, GoesOpen, Turns, HasNothing, FinishesResync, StartsPendingResync, Settles, opening, speaking}
 use Rattle.session_core.specs.Paces.{inferred}
-use Rattle.session_core.specs.Standing.{StandingState, changed, shared, finished_if, finishing, begun_resync, Does, task_at, TakesTurn, Writes, Stands, without_tables, leaving, heartbeats, TicksIn, caught_up_in}
-use Rattle.session_core.specs.StandingRuns.{Happening, At, Tick, Ask, CatchUp, Happens, Lasts, acts_of, leaves, was_left}
-use Rattle.session_core.specs.StandingSteps.{is_about}
+use Rattle.session_core.specs.Standing.{StandingState, shared, finished_if, finishing, begun_resync, Does, task_at, TakesTurn, Writes, Stands, without_tables, leaving, heartbeats, TicksIn, word_of, reopening}
+use Rattle.session_core.specs.Happenings.{Happening, is_tick, leaves, was_left, is_about}
+use Rattle.session_core.proofs.MachineRuns.{Happens, Lasts}
+use Rattle.session_core.specs.Paces.{is_overdue, tables_to_leave}
+use Rattle.session_core.proofs.TickGives.{is_of_tick_event, left_reopened}
 use Rattle.session_core.proofs.ShareLemmas.{true_or_false}
 
 -- ---- lists
@@ -267,6 +271,9 @@ past_greets t s (greeters.Accepts own peers) bytes c given e none goes = past_ac
 past_new : (t : ℕ) (s : SessionState) (hello : Hello) (c : Course) (event : Event) (acts : List Action) (e : SessionState) → lists t c.shares ≡ false → GoesNew s hello c event acts e → GoesPast t acts e
 past_new t s hello c events.Opened acts e none (is, ends) = past_at t acts _ e _ is ends (refl, none)
 past_new t s hello c events.Turn acts e none (is, ends) = past_at t acts _ e _ is ends (refl, none)
+past_new t s hello c events.Tick acts e none (is, ends) = past_at t acts _ e _ is ends (refl, none)
+past_new t s hello c events.Ask acts e none (is, ends) = past_at t acts _ e _ is ends (refl, none)
+past_new t s hello c events.CaughtUp acts e none (is, ends) = past_at t acts _ e _ is ends (refl, none)
 past_new t s hello c events.End acts e none (is, ends) = past_at t acts _ e _ is ends (refl, refl)
 past_new t s hello c events.ReadFault acts e none (is, ends) = past_at t acts _ e _ is ends (refl, refl)
 past_new t s hello c events.WriteFault acts e none (is, ends) = past_at t acts _ e _ is ends (refl, refl)
@@ -280,6 +287,9 @@ past_new t s hello c (events.Refused table) acts e none goes = absurd goes
 past_hello : (t : ℕ) (s : SessionState) (greeter : Greeter) (bytes : List ℕ) (c : Course) (event : Event) (acts : List Action) (e : SessionState) → lists t c.shares ≡ false → GoesHello s greeter bytes c event acts e → GoesPast t acts e
 past_hello t s greeter bytes c (events.Bytes piece) acts e none goes = past_greets t s greeter (bytes ++ piece) c acts e none goes
 past_hello t s greeter bytes c events.Turn acts e none (is, ends) = past_at t acts _ e _ is ends (refl, none)
+past_hello t s greeter bytes c events.Tick acts e none (is, ends) = past_at t acts _ e _ is ends (refl, none)
+past_hello t s greeter bytes c events.Ask acts e none (is, ends) = past_at t acts _ e _ is ends (refl, none)
+past_hello t s greeter bytes c events.CaughtUp acts e none (is, ends) = past_at t acts _ e _ is ends (refl, none)
 past_hello t s greeter bytes c events.End acts e none (is, ends) = past_at t acts _ e _ is ends (refl, refl)
 past_hello t s greeter bytes c events.ReadFault acts e none (is, ends) = past_at t acts _ e _ is ends (refl, refl)
 past_hello t s greeter bytes c events.WriteFault acts e none (is, ends) = past_at t acts _ e _ is ends (refl, refl)
@@ -323,6 +333,9 @@ answered_shares t c mid is none = ap (λ (x : Course). lists t x.shares) is ∙ 
 past_open : (t : ℕ) (s : SessionState) (c : Course) (event : Event) (acts : List Action) (e : SessionState) → lists t c.shares ≡ false → GoesOpen s c event acts e → GoesPast t acts e
 past_open t s c events.Turn acts e none (due, turns) =
     past_turns t (table_to_ask c) s c acts e none (not_asked (c.waits && not c.stays) (next_table c.teaching c.asked c.shares) t (not_next c.teaching c.asked t c.shares none)) turns
+past_open t s c events.Tick acts e none (due, (is, ends)) = past_at t acts _ e _ is ends (refl, none)
+past_open t s c events.Ask acts e none (due, (is, ends)) = past_at t acts _ e _ is ends (refl, none)
+past_open t s c events.CaughtUp acts e none (due, (is, ends)) = past_at t acts _ e _ is ends (refl, none)
 past_open t s c (events.Bytes bytes) acts e none (due, receives) = past_receives t s (course_fed c bytes) [] acts e none refl receives
 past_open t s c (events.Copied table batch) acts e none (mid, answered, (is, ends)) =
     past_at t acts _ e _ is ends (refl, lists_out_set t table true mid.shares ∙ answered_shares t c mid answered.1 none)
@@ -382,19 +395,6 @@ past_writes t (phases.New hello c) s e now known acts none writes = absurd write
 past_writes t (phases.Hello greeter bytes c) s e now known acts none writes = absurd writes
 past_writes t phases.Ended s e now known acts none writes = absurd writes
 
-past_stands : (t : ℕ) (event : Event) (s e : StandingState) (now : ℕ) (acts : List Action) → lists t (shared s.session.phase) ≡ false → Stands s now event acts e → GoesPast t acts e.session
-past_stands t (events.Bytes bytes) s e now acts none (goes, paces) = past_in t s.session.phase s.session (events.Bytes bytes) acts e.session none goes
-past_stands t events.Turn s e now acts none turns = past_turn t s.session.phase s e now acts refl none turns
-past_stands t (events.Written known) s e now acts none writes = past_writes t s.session.phase s e now known acts none writes
-past_stands t (events.Refused table) s e now acts none (goes, paces) = past_in t s.session.phase s.session _ acts e.session none goes
-past_stands t (events.Copied table batch) s e now acts none (goes, paces) = past_in t s.session.phase s.session (events.Copied table batch) acts e.session none goes
-past_stands t events.Opened s e now acts none (goes, paces) = past_in t s.session.phase s.session events.Opened acts e.session none goes
-past_stands t events.End s e now acts none (goes, paces) = past_in t s.session.phase s.session events.End acts e.session none goes
-past_stands t events.ReadFault s e now acts none (goes, paces) = past_in t s.session.phase s.session events.ReadFault acts e.session none goes
-past_stands t events.WriteFault s e now acts none (goes, paces) = past_in t s.session.phase s.session events.WriteFault acts e.session none goes
-past_stands t (events.Nothing table) s e now acts none (goes, paces) = past_in t s.session.phase s.session (events.Nothing table) acts e.session none goes
-past_stands t (events.Settled table settled) s e now acts none (goes, paces) = past_in t s.session.phase s.session (events.Settled table settled) acts e.session none goes
-
 past_leaving : (t : ℕ) (left : List ℕ) (c : Course) → lists t c.shares ≡ false → IsPast t (leaving left c).0 (leaving left c).1.shares
 past_leaving t [] c none = (refl, none)
 past_leaving t (table ∷ tables) c none = past_finishing t (without_tables (table ∷ tables) c) (lists_kept t (table ∷ tables) c.shares none)
@@ -412,18 +412,47 @@ past_ticks t false (phases.New hello c) s e now left acts stands none (leaves, i
 past_ticks t false (phases.Hello greeter bytes c) s e now left acts stands none (leaves, is, same) = past_still t s e acts is same none
 past_ticks t false phases.Ended s e now left acts stands none (leaves, is, same) = past_still t s e acts is same none
 
-past_caught : (t : ℕ) (left : Bool) (phase : Phase) → lists t (shared phase) ≡ false → lists t (shared (changed (caught_up_in left) phase)) ≡ false
-past_caught t left (phases.New hello c) none = none
-past_caught t left (phases.Hello greeter bytes c) none = none
-past_caught t left (phases.Open c) none = none
-past_caught t left phases.Ended none = refl
+-- a tick leaves only tables that are shared
+concerns_cond : (t : ℕ) (b : Bool) (table : ℕ) (tables : List ℕ) → (table == t) ≡ false → concerns t (reopening tables) ≡ false → concerns t (reopening (cond b (table ∷ tables) tables)) ≡ false
+concerns_cond t true table tables one others = neither (table == t) (concerns t (reopening tables)) one others
+concerns_cond t false table tables one others = others
 
-past_happens : (t : ℕ) (one : Happening) (s e : StandingState) → lists t (shared s.session.phase) ≡ false → Happens s one e → GoesPast t (acts_of one) e.session
-past_happens t (At now event acts) s e none stands = past_stands t event s e now acts none stands
-past_happens t (Tick now left acts) s e none (asked, ticks) = past_ticks t _ s.session.phase s e now left acts refl none ticks
-past_happens t (Ask now) s e none sent = (refl, ap (λ (x : StandingState). lists t (shared x.session.phase)) sent ∙ none)
-past_happens t CatchUp s e none caught =
-    (refl, ap (λ (x : StandingState). lists t (shared x.session.phase)) caught ∙ past_caught t s.pace.left s.session.phase none)
+unlisted_leave : (t now : ℕ) (ps : List Progress) (ss : List Share) → lists t ss ≡ false → concerns t (reopening (tables_to_leave now ps ss)) ≡ false
+unlisted_leave t now ps [] none = refl
+unlisted_leave t now ps (s ∷ ss) none =
+    concerns_cond t (is_overdue now ps s) s.table (tables_to_leave now ps ss) (or_left (s.table == t) (lists t ss) none) (unlisted_leave t now ps ss (or_right (s.table == t) (lists t ss) none))
+
+none_concerned : (t : ℕ) (left : List ℕ) → left ≡ [] → concerns t (reopening left) ≡ false
+none_concerned t left none = ap (λ (xs : List ℕ). concerns t (reopening xs)) none
+
+unlisted_left : (t : ℕ) (silent : Bool) (phase : Phase) (s e : StandingState) (now : ℕ) (left : List ℕ) (acts : List Action) → s.session.phase ≡ phase → lists t (shared s.session.phase) ≡ false → TicksIn silent phase s now left acts e → concerns t (reopening left) ≡ false
+unlisted_left t true phase s e now left acts stands none (leaves, is, session, paces) = none_concerned t left leaves
+unlisted_left t false (phases.Open c) s e now left acts stands none (leaves, is, session, paces) =
+    ap (λ (xs : List ℕ). concerns t (reopening xs)) leaves ∙ unlisted_leave t now s.pace.progress c.shares (subst (λ (p : Phase). lists t (shared p) ≡ false) stands none)
+unlisted_left t false (phases.New hello c) s e now left acts stands none (leaves, is, same) = none_concerned t left leaves
+unlisted_left t false (phases.Hello greeter bytes c) s e now left acts stands none (leaves, is, same) = none_concerned t left leaves
+unlisted_left t false phases.Ended s e now left acts stands none (leaves, is, same) = none_concerned t left leaves
+
+past_stands : (t : ℕ) (event : Event) (s e : StandingState) (now : ℕ) (acts : List Action) → lists t (shared s.session.phase) ≡ false → Stands s now event acts e → GoesPast t acts e.session
+past_stands t (events.Bytes bytes) s e now acts none (goes, paces) = past_in t s.session.phase s.session (events.Bytes bytes) acts e.session none goes
+past_stands t events.Turn s e now acts none turns = past_turn t s.session.phase s e now acts refl none turns
+past_stands t (events.Written known) s e now acts none writes = past_writes t s.session.phase s e now known acts none writes
+past_stands t (events.Refused table) s e now acts none (goes, paces) = past_in t s.session.phase s.session _ acts e.session none goes
+past_stands t (events.Copied table batch) s e now acts none (goes, paces) = past_in t s.session.phase s.session (events.Copied table batch) acts e.session none goes
+past_stands t events.Opened s e now acts none (goes, paces) = past_in t s.session.phase s.session events.Opened acts e.session none goes
+past_stands t events.Ask s e now acts none (goes, paces) = past_in t s.session.phase s.session events.Ask acts e.session none goes
+past_stands t events.CaughtUp s e now acts none (goes, paces) = past_in t s.session.phase s.session (word_of s.pace.left) acts e.session none goes
+past_stands t events.Tick s e now acts none (asked, (left, rest, ticks, is)) =
+    let past = past_ticks t _ s.session.phase s e now left rest refl none ticks in
+    (ap (concerns t) is ∙ concerns_append t (reopening left) rest (unlisted_left t _ s.session.phase s e now left rest refl none ticks) past.0, past.1)
+past_stands t events.End s e now acts none (goes, paces) = past_in t s.session.phase s.session events.End acts e.session none goes
+past_stands t events.ReadFault s e now acts none (goes, paces) = past_in t s.session.phase s.session events.ReadFault acts e.session none goes
+past_stands t events.WriteFault s e now acts none (goes, paces) = past_in t s.session.phase s.session events.WriteFault acts e.session none goes
+past_stands t (events.Nothing table) s e now acts none (goes, paces) = past_in t s.session.phase s.session (events.Nothing table) acts e.session none goes
+past_stands t (events.Settled table settled) s e now acts none (goes, paces) = past_in t s.session.phase s.session (events.Settled table settled) acts e.session none goes
+
+past_happens : (t : ℕ) (one : Happening) (s e : StandingState) → lists t (shared s.session.phase) ≡ false → Happens s one e → GoesPast t one.acts e.session
+past_happens t one s e none happens = past_stands t one.event s e one.now one.acts none happens
 
 -- ---- runs
 
@@ -443,11 +472,18 @@ left_ticks t false (phases.New hello c) s e now left acts is (leaves, acted, sam
 left_ticks t false (phases.Hello greeter bytes c) s e now left acts is (leaves, acted, same) = none_left t left leaves is
 left_ticks t false phases.Ended s e now left acts is (leaves, acted, same) = none_left t left leaves is
 
+left_at : (t : ℕ) (s e : StandingState) (now : ℕ) (acts : List Action) → reopened t acts ≡ true → Stands s now events.Tick acts e → lists t (shared e.session.phase) ≡ false
+left_at t s e now acts is (asked, (left, rest, ticks, acted)) =
+    left_ticks t _ s.session.phase s e now left rest (sym (left_reopened t _ s.session.phase s e now left rest acts ticks acted) ∙ is) ticks
+
+both_so : (a b : Bool) → (a && b) ≡ true → (a ≡ true) × (b ≡ true)
+both_so true b so = (refl, so)
+both_so false b so = absurd (false≢true so)
+
 left_happens : (t : ℕ) (one : Happening) (s e : StandingState) → leaves t one ≡ true → Happens s one e → lists t (shared e.session.phase) ≡ false
-left_happens t (At now event acts) s e is stands = absurd (false≢true is)
-left_happens t (Tick now left acts) s e is (asked, ticks) = left_ticks t _ s.session.phase s e now left acts is ticks
-left_happens t (Ask now) s e is sent = absurd (false≢true is)
-left_happens t CatchUp s e is caught = absurd (false≢true is)
+left_happens t one s e is happens =
+    let both = both_so (is_tick one.event) (reopened t one.acts) is in
+    left_at t s e one.now one.acts both.1 (subst (λ (event : Event). Stands s one.now event one.acts e) (is_of_tick_event one.event both.0) happens)
 
 -- it stays unshared
 past_lasts : (t : ℕ) (steps : List Happening) (s e : StandingState) → lists t (shared s.session.phase) ≡ false → Lasts s steps e → lists t (shared e.session.phase) ≡ false
@@ -465,5 +501,5 @@ left_lasts t (one ∷ steps) s e is (mid, happens, lasts) = elim (either_left (l
   | inr later ↦ left_lasts t steps mid e later lasts
 ]
 
-pub left_for_good : (s t e : StandingState) (steps : List Happening) (one : Happening) (table : ℕ) → Lasts s steps t → was_left table steps ≡ true → Happens t one e → list_any (is_about table) (acts_of one) ≡ false
+pub left_for_good : (s t e : StandingState) (steps : List Happening) (one : Happening) (table : ℕ) → Lasts s steps t → was_left table steps ≡ true → Happens t one e → list_any (is_about table) one.acts ≡ false
 left_for_good s t e steps one table lasts is happens = (past_happens table one t e (left_lasts table steps s t is lasts) happens).0

@@ -1,3 +1,4 @@
+mod MachineRuns
 mod ReadersGoOn
 mod ReceivingLemmas
 mod EndLemmas
@@ -15,12 +16,12 @@ mod BytesStay
 mod SomeStep
 mod SameHoweverFed
 mod TickGives
+mod TickTaken
 mod StandingTimes
 mod BegunToStay
 mod StandingTicks
 mod StandingAcks
 mod StandingWork
-mod SilentTicks
 mod StandingEnds
 mod StandingFinish
 mod NamesKept
@@ -31,7 +32,6 @@ mod ReopensApart
 pub mod OnlyTurnsCopy
 mod StandingOnce
 mod StandingExactly
-pub mod KeepingLaws
 mod SomeStand
 mod TakenHoweverCut
 mod AnswersInOrder
@@ -44,3 +44,9 @@ mod HelloDecides
 mod LessonDue
 mod StandingMoves
 mod StandingGreetings
+pub mod KeepingLaws
+mod EitherRuns
+mod HeardInRuns
+mod EitherHeard
+mod EitherClock
+mod OneManner

@@ -15,8 +15,9 @@ use Rattle.session_core.specs.Shares.{any_out, all_quiet}
 use Rattle.session_core.specs.Courses.{Course, table_to_ask, teaching_anew}
 use Rattle.session_core.specs.Sessions.{SessionState, GoesIn, Turns}
 use Rattle.session_core.specs.Paces.{has_passed, push_time, is_rested, stores_names, may_lose_names, awaits_names}
-use Rattle.session_core.specs.Standing.{StandingState, Does, finished_if, finishing, begun_resync, task_at, TakesTurn, Stands, TicksIn, Ticks}
+use Rattle.session_core.specs.Standing.{StandingState, Does, finished_if, finishing, begun_resync, task_at, TakesTurn, Stands, TicksIn}
 use Rattle.session_core.specs.Runs.{is_copy_of, copies}
+use Rattle.session_core.proofs.MachineRuns.{Ticks}
 use Rattle.session_core.proofs.EndLemmas.{plain_reopens}
 
 -- ---- a turn copies from the table to ask, which awaits no names

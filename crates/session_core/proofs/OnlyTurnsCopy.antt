@@ -1,5 +1,6 @@
 -- Only a turn copies.
 use Rattle.std.proofs.Common.{◌≡◌, ℕ, Bool, true, false, List, [], ◌∷◌, ◌++◌, Option, Some, None, Result, Ok, Err, refl, sym, ap, ◌∙◌}
+use Rattle.std.proofs.lemmas.List.Folds.{list_any-append}
 use Rattle.std.specs.Prelude.{drop}
 use Rattle.std.proofs.lemmas.Bool.{false≢true}
 use Rattle.table_types.specs.declared.copies.Settled.{Settled}
@@ -26,10 +27,11 @@ use Rattle.session_core.specs.Phases as phases
 use Rattle.session_core.specs.Shares.{is_out}
 use Rattle.session_core.specs.Actions.{sends_control, status_text}
 use Rattle.session_core.specs.Courses.{Course, course_fed, acknowledged, ack_received, ReceivesAll, acks_given}
-use Rattle.session_core.specs.Sessions.{SessionState, Concludes, ReceivesBytes, IsWelcomed, Connects, Accepts, Greets, GoesIn, GoesNew, GoesHello, GoesOpen, HasNothing, FinishesResync, StartsPendingResync, Settles, first_word, opening, speaking}
-use Rattle.session_core.specs.Runs.{copies}
+use Rattle.session_core.specs.Sessions.{SessionState, Concludes, ReceivesBytes, IsWelcomed, Connects, Accepts, Greets, GoesIn, GoesNew, GoesHello, GoesOpen, HasNothing, FinishesResync, StartsPendingResync, Settles, first_word, opening, speaking, Goes}
+use Rattle.session_core.specs.Runs.{copies, is_copy_of}
 use Rattle.session_core.specs.Paces.{inferred, is_ahead}
-use Rattle.session_core.specs.Standing.{StandingState, Writes, answer_of_refusal, Stands}
+use Rattle.session_core.specs.Standing.{StandingState, Writes, answer_of_refusal, word_of, reopening, finished_if, leaving, without_tables, heartbeats, TicksIn, Stands}
+use Rattle.session_core.proofs.TickGives.{after_reopening}
 use Rattle.session_core.proofs.EndLemmas.{is_plain, plain_append, plain_all, plain_acks, plain_ready, plain_status, plain_reopens, plain_word}
 
 -- ---- bytes
@@ -80,6 +82,9 @@ IsOther event = Unit {0}
 copied_new : (t : ℕ) (s : SessionState) (hello : Hello) (c : Course) (event : Event) (acts : List Action) (e : SessionState) → GoesNew s hello c event acts e → copies t acts ≡ false
 copied_new t s hello c events.Opened acts e (is, ends) = ap (copies t) is
 copied_new t s hello c events.Turn acts e (is, ends) = ap (copies t) is
+copied_new t s hello c events.Tick acts e (is, ends) = ap (copies t) is
+copied_new t s hello c events.Ask acts e (is, ends) = ap (copies t) is
+copied_new t s hello c events.CaughtUp acts e (is, ends) = ap (copies t) is
 copied_new t s hello c events.End acts e (is, ends) = ap (copies t) is
 copied_new t s hello c events.ReadFault acts e (is, ends) = ap (copies t) is
 copied_new t s hello c events.WriteFault acts e (is, ends) = ap (copies t) is
@@ -96,6 +101,9 @@ copied_hello t s greeter bytes c events.Turn acts e other goes = absurd other
 copied_hello t s greeter bytes c events.End acts e other (is, ends) = ap (copies t) is
 copied_hello t s greeter bytes c events.ReadFault acts e other (is, ends) = ap (copies t) is
 copied_hello t s greeter bytes c events.WriteFault acts e other (is, ends) = ap (copies t) is
+copied_hello t s greeter bytes c events.Tick acts e other (is, ends) = ap (copies t) is
+copied_hello t s greeter bytes c events.Ask acts e other (is, ends) = ap (copies t) is
+copied_hello t s greeter bytes c events.CaughtUp acts e other (is, ends) = ap (copies t) is
 copied_hello t s greeter bytes c events.Opened acts e other goes = absurd goes
 copied_hello t s greeter bytes c (events.Copied table batch) acts e other goes = absurd goes
 copied_hello t s greeter bytes c (events.Nothing table) acts e other goes = absurd goes
@@ -122,6 +130,9 @@ copied_settles t settles.Older s c table acts e (is, ends) = ap (copies t) is
 
 copied_open : (t : ℕ) (s : SessionState) (c : Course) (event : Event) (acts : List Action) (e : SessionState) → IsOther event → GoesOpen s c event acts e → copies t acts ≡ false
 copied_open t s c events.Turn acts e other goes = absurd other
+copied_open t s c events.Tick acts e other (due, (is, ends)) = ap (copies t) is
+copied_open t s c events.Ask acts e other (due, (is, ends)) = ap (copies t) is
+copied_open t s c events.CaughtUp acts e other (due, (is, ends)) = ap (copies t) is
 copied_open t s c (events.Bytes bytes) acts e other goes = absurd other
 copied_open t s c (events.Copied table batch) acts e other (mid, answered, (is, ends)) = ap (copies t) is
 copied_open t s c (events.Nothing table) acts e other (mid, answered, nothing) = copied_nothing t mid.teaching s mid table acts e nothing
@@ -159,6 +170,34 @@ other_refusal : (b : Bool) (table : ℕ) → IsOther (answer_of_refusal b table)
 other_refusal true table = tt
 other_refusal false table = tt
 
+other_word : (b : Bool) → IsOther (word_of b)
+other_word true = tt
+other_word false = tt
+
+copied_end : (t : ℕ) (b : Bool) (c : Course) → copies t (finished_if b c).0 ≡ false
+copied_end t true c = refl
+copied_end t false c = refl
+
+copied_leaving : (t : ℕ) (left : List ℕ) (c : Course) → copies t (leaving left c).0 ≡ false
+copied_leaving t [] c = refl
+copied_leaving t (table ∷ tables) c = copied_end t _ (without_tables (table ∷ tables) c)
+
+copied_beats : (t : ℕ) (b : Bool) → copies t (heartbeats b) ≡ false
+copied_beats t true = refl
+copied_beats t false = refl
+
+copied_rest : (t : ℕ) (silent : Bool) (phase : Phase) (s e : StandingState) (now : ℕ) (left : List ℕ) (rest : List Action) → TicksIn silent phase s now left rest e → copies t rest ≡ false
+copied_rest t true phase s e now left rest (leaves, is, session, paces) = ap (copies t) is
+copied_rest t false (phases.Open c) s e now left rest (leaves, is, session, paces) =
+    ap (copies t) is ∙ (list_any-append (is_copy_of t) (leaving left c).0 (heartbeats _) ∙ rw (copied_leaving t left c) (copied_beats t _))
+copied_rest t false (phases.New hello c) s e now left rest (leaves, is, same) = ap (copies t) is
+copied_rest t false (phases.Hello greeter bytes c) s e now left rest (leaves, is, same) = ap (copies t) is
+copied_rest t false phases.Ended s e now left rest (leaves, is, same) = ap (copies t) is
+
+-- no tick copies
+pub copied_ticks : (t : ℕ) (silent : Bool) (phase : Phase) (s e : StandingState) (now : ℕ) (left : List ℕ) (rest : List Action) → TicksIn silent phase s now left rest e → copies t (reopening left ++ rest) ≡ false
+copied_ticks t silent phase s e now left rest ticks = after_reopening (is_copy_of t) (λ table. refl) left rest ∙ copied_rest t silent phase s e now left rest ticks
+
 clash : (event : Event) (t : ℕ) (acts : List Action) → copies t acts ≡ true → copies t acts ≡ false → event ≡ events.Turn
 clash event t acts copied none = absurd (false≢true (sym none ∙ copied))
 
@@ -170,8 +209,28 @@ only_turns_copy s e now (events.Refused other) acts table (goes, paces) copied =
     clash (events.Refused other) table acts copied (copied_in table s.session.phase s.session _ acts e.session (other_refusal (is_ahead other s.pace.progress) other) goes)
 only_turns_copy s e now (events.Copied other batch) acts table (goes, paces) copied = clash (events.Copied other batch) table acts copied (copied_in table s.session.phase s.session (events.Copied other batch) acts e.session tt goes)
 only_turns_copy s e now events.Opened acts table (goes, paces) copied = clash events.Opened table acts copied (copied_in table s.session.phase s.session events.Opened acts e.session tt goes)
+only_turns_copy s e now events.Ask acts table (goes, paces) copied = clash events.Ask table acts copied (copied_in table s.session.phase s.session events.Ask acts e.session tt goes)
+only_turns_copy s e now events.CaughtUp acts table (goes, paces) copied = clash events.CaughtUp table acts copied (copied_in table s.session.phase s.session _ acts e.session (other_word s.pace.left) goes)
+only_turns_copy s e now events.Tick acts table (asked, (left, rest, ticks, is)) copied = clash events.Tick table acts copied (ap (copies table) is ∙ copied_ticks table _ s.session.phase s e now left rest ticks)
 only_turns_copy s e now events.End acts table (goes, paces) copied = clash events.End table acts copied (copied_in table s.session.phase s.session events.End acts e.session tt goes)
 only_turns_copy s e now events.ReadFault acts table (goes, paces) copied = clash events.ReadFault table acts copied (copied_in table s.session.phase s.session events.ReadFault acts e.session tt goes)
 only_turns_copy s e now events.WriteFault acts table (goes, paces) copied = clash events.WriteFault table acts copied (copied_in table s.session.phase s.session events.WriteFault acts e.session tt goes)
 only_turns_copy s e now (events.Nothing other) acts table (goes, paces) copied = clash (events.Nothing other) table acts copied (copied_in table s.session.phase s.session (events.Nothing other) acts e.session tt goes)
 only_turns_copy s e now (events.Settled other settled) acts table (goes, paces) copied = clash (events.Settled other settled) table acts copied (copied_in table s.session.phase s.session (events.Settled other settled) acts e.session tt goes)
+
+-- so it is in a plain session
+pub goes_copy : (s e : SessionState) (event : Event) (acts : List Action) (table : ℕ) → Goes s event acts e → copies table acts ≡ true → event ≡ events.Turn
+goes_copy s e events.Turn acts table goes copied = refl
+goes_copy s e (events.Bytes bytes) acts table goes copied = clash (events.Bytes bytes) table acts copied (copied_bytes table s.phase s bytes acts e goes)
+goes_copy s e events.Opened acts table goes copied = clash events.Opened table acts copied (copied_in table s.phase s events.Opened acts e tt goes)
+goes_copy s e events.End acts table goes copied = clash events.End table acts copied (copied_in table s.phase s events.End acts e tt goes)
+goes_copy s e events.ReadFault acts table goes copied = clash events.ReadFault table acts copied (copied_in table s.phase s events.ReadFault acts e tt goes)
+goes_copy s e events.WriteFault acts table goes copied = clash events.WriteFault table acts copied (copied_in table s.phase s events.WriteFault acts e tt goes)
+goes_copy s e events.Tick acts table goes copied = clash events.Tick table acts copied (copied_in table s.phase s events.Tick acts e tt goes)
+goes_copy s e events.Ask acts table goes copied = clash events.Ask table acts copied (copied_in table s.phase s events.Ask acts e tt goes)
+goes_copy s e events.CaughtUp acts table goes copied = clash events.CaughtUp table acts copied (copied_in table s.phase s events.CaughtUp acts e tt goes)
+goes_copy s e (events.Copied other batch) acts table goes copied = clash (events.Copied other batch) table acts copied (copied_in table s.phase s (events.Copied other batch) acts e tt goes)
+goes_copy s e (events.Nothing other) acts table goes copied = clash (events.Nothing other) table acts copied (copied_in table s.phase s (events.Nothing other) acts e tt goes)
+goes_copy s e (events.Written known) acts table goes copied = clash (events.Written known) table acts copied (copied_in table s.phase s (events.Written known) acts e tt goes)
+goes_copy s e (events.Settled other settled) acts table goes copied = clash (events.Settled other settled) table acts copied (copied_in table s.phase s (events.Settled other settled) acts e tt goes)
+goes_copy s e (events.Refused other) acts table goes copied = clash (events.Refused other) table acts copied (copied_in table s.phase s (events.Refused other) acts e tt goes)

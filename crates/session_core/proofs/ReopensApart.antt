@@ -5,12 +5,11 @@ use Rattle.std.proofs.lemmas.Bool.{false≢true}
 use Rattle.table_types.specs.Tables.{Definition}
 use Rattle.table_types.specs.declared.version.Version.TheVariants as versions
 use Rattle.session_core.specs.declared.action.Action.{Action}
-use Rattle.session_core.specs.declared.event.Event.{Event}
 use Rattle.session_core.specs.declared.event.Event.TheVariants as events
 use Rattle.session_core.specs.Paces.{resync_time}
 use Rattle.session_core.specs.Standing.{StandingState, is_open, is_reopen, Stands}
-use Rattle.session_core.specs.StandingRuns.{Happening, Lasts, BeginsToStay}
-use Rattle.session_core.specs.StandingSteps.{IsSince}
+use Rattle.session_core.specs.Happenings.{Happening, IsSince}
+use Rattle.session_core.proofs.MachineRuns.{Happens, Lasts, BeginsToStay}
 use Rattle.session_core.proofs.BegunToStay.{paced_turn, rare_stands, stays_lasts, stays_run}
 use Rattle.session_core.proofs.StandingTimes.{IsBegunSince, begun_lasts, rested_since}
 
@@ -29,6 +28,7 @@ reopens_apart roster begun s t u e before between m n acts given begins lasts tu
     let other = paced_turn u.session.phase u e n given refl (stays_lasts between t u one.0 goes_on) turns_then in
     rested_since m n u.pace.reopened (begun_lasts between t u m (began_at m t.pace.reopened began.1) since goes_on) (if_reopens _ given reopens_then other.1).0
 
-pub reopens_as_it_opens : (roster : List Definition) (begun s e : StandingState) (steps : List Happening) (now : ℕ) (event : Event) (acts : List Action) → BeginsToStay roster begun → Lasts begun steps s → Stands s now event acts e → list_any is_reopen acts ≡ true → (event ≡ events.Turn) ⊎ ((is_open s.session.phase ≡ false) × (e.session.version ≡ Some versions.V20))
-reopens_as_it_opens roster begun s e steps now event acts begins lasts stands reopens =
-    if_reopens _ acts reopens (rare_stands event s e now acts (stays_run roster begun s steps begins lasts) stands).1
+pub reopens_as_it_opens : (roster : List Definition) (begun s e : StandingState) (steps : List Happening) (one : Happening) → BeginsToStay roster begun → Lasts begun steps s → Happens s one e → list_any is_reopen one.acts ≡ true
+    → (one.event ≡ events.Turn) ⊎ ((one.event ≡ events.Tick) ⊎ ((is_open s.session.phase ≡ false) × (e.session.version ≡ Some versions.V20)))
+reopens_as_it_opens roster begun s e steps one begins lasts happens reopens =
+    if_reopens _ one.acts reopens (rare_stands one.event s e one.now one.acts (stays_run roster begun s steps begins lasts) happens).1

@@ -33,7 +33,8 @@ use Rattle.session_core.specs.Shares.{any_out, all_quiet, quiet_set}
 use Rattle.session_core.specs.Actions.{sends_control, status_text}
 use Rattle.session_core.specs.Courses.{Course, course_fed, ReceivesAll, acks_given, table_to_ask}
 use Rattle.session_core.specs.Sessions.{SessionState, Goes, GoesIn, GoesNew, GoesHello, GoesOpen, Concludes, ReceivesBytes, IsWelcomed, Connects, Accepts, Greets, Turns, HasNothing, FinishesResync, StartsPendingResync, Settles, first_word, opening, speaking}
-use Rattle.session_core.specs.Runs.{Runs, IsBegun, ends_resync, HasNothingLeft, HasNothingOut}
+use Rattle.session_core.specs.Runs.{IsBegun, ends_resync, HasNothingLeft, HasNothingOut}
+use Rattle.session_core.proofs.MachineRuns.{Runs}
 use Rattle.session_core.proofs.ShareLemmas.{shares_in, ids_of, shares_begin, none_out, each_quiet}
 use Rattle.session_core.proofs.EndLemmas.{is_plain, plain_append, plain_all, plain_acks, plain_ready, plain_status, plain_reopens, plain_word}
 use Rattle.session_core.proofs.RunLemmas.{IsKeptIn, IsSound}
@@ -41,7 +42,7 @@ use Rattle.session_core.proofs.StepLemmas.{goes_kept, with_step, quieted}
 
 -- ---- runs
 
-run_kept : (ids : List ℕ) (before steps : List (Event × List Action)) (s e : SessionState) → IsKeptIn false ids before s.phase → Runs s steps e → IsKeptIn false ids (before ++ steps) e.phase
+pub run_kept : (ids : List ℕ) (before steps : List (Event × List Action)) (s e : SessionState) → IsKeptIn false ids before s.phase → Runs s steps e → IsKeptIn false ids (before ++ steps) e.phase
 run_kept ids before [] s e kept here =
     subst (λ (steps : List (Event × List Action)). IsKeptIn false ids steps e.phase) (sym (append-nil before)) (subst (λ (x : SessionState). IsKeptIn false ids before x.phase) (sym here) kept)
 run_kept ids before (step ∷ steps) s e kept (mid, goes, runs) =
@@ -49,15 +50,15 @@ run_kept ids before (step ∷ steps) s e kept (mid, goes, runs) =
     subst (λ (all : List (Event × List Action)). IsKeptIn false ids all e.phase) grouped
     (run_kept ids (with_step before step.0 step.1) steps mid e (goes_kept false ids before s.phase s step.0 step.1 mid kept goes) runs)
 
-begun_kept : (roster : List Definition) (s : SessionState) → IsBegun roster s → IsKeptIn false (ids_of roster) [] s.phase
+pub begun_kept : (roster : List Definition) (s : SessionState) → IsBegun roster s → IsKeptIn false (ids_of roster) [] s.phase
 begun_kept roster s (inl (hello, up_to_date, is)) = subst (λ (x : SessionState). IsKeptIn false (ids_of roster) [] x.phase) (sym is) (shares_begin roster, refl, refl, refl)
 begun_kept roster s (inr (own, peers, up_to_date, is)) = subst (λ (x : SessionState). IsKeptIn false (ids_of roster) [] x.phase) (sym is) (shares_begin roster, refl, refl, refl)
 
 -- ---- the step that ends a resync
 
--- no batch is outstanding then, and no table has anything left to teach
-abbrev HasTaughtAll : List Definition → List (Event × List Action) → SessionState → Event → List Action → Type 0
-HasTaughtAll roster steps s event acts = HasNothingOut s × AllByRecursion (λ d. HasNothingLeft kinds.Resync (with_step steps event acts) d.id) roster
+-- no batch is outstanding before and then, and no table has anything left to teach
+abbrev pub HasTaughtAll : List Definition → List (Event × List Action) → SessionState → Event → List Action → SessionState → Type 0
+HasTaughtAll roster steps s event acts e = HasNothingOut s × HasNothingOut e × AllByRecursion (λ d. HasNothingLeft kinds.Resync (with_step steps event acts) d.id) roster
 
 -- actions that end no resync
 no_end : {X : Type 0} (acts given : List Action) → acts ≡ given → ends_resync given ≡ false → ends_resync acts ≡ true → X
@@ -78,6 +79,9 @@ no_end_receives s c first acts e plain (result, given, mid, receives, concludes)
 no_end_new : {X : Type 0} (s : SessionState) (hello : Hello) (c : Course) (event : Event) (acts : List Action) (e : SessionState) → GoesNew s hello c event acts e → ends_resync acts ≡ true → X
 no_end_new s hello c events.Opened acts e (is, then) ends = no_end acts _ is refl ends
 no_end_new s hello c events.Turn acts e (is, then) ends = no_end acts [] is refl ends
+no_end_new s hello c events.Tick acts e (is, then) ends = no_end acts [] is refl ends
+no_end_new s hello c events.Ask acts e (is, then) ends = no_end acts [] is refl ends
+no_end_new s hello c events.CaughtUp acts e (is, then) ends = no_end acts [] is refl ends
 no_end_new s hello c events.End acts e (is, then) ends = no_end acts (actions.Close ∷ []) is refl ends
 no_end_new s hello c events.ReadFault acts e (is, then) ends = no_end acts (actions.Close ∷ []) is refl ends
 no_end_new s hello c events.WriteFault acts e (is, then) ends = no_end acts (actions.Close ∷ []) is refl ends
@@ -110,6 +114,9 @@ no_end_greets s (greeters.Accepts own peers) bytes c acts e goes ends = no_end_a
 no_end_hello : {X : Type 0} (s : SessionState) (greeter : Greeter) (bytes : List ℕ) (c : Course) (event : Event) (acts : List Action) (e : SessionState) → GoesHello s greeter bytes c event acts e → ends_resync acts ≡ true → X
 no_end_hello s greeter bytes c (events.Bytes piece) acts e goes ends = no_end_greets s greeter (bytes ++ piece) c acts e goes ends
 no_end_hello s greeter bytes c events.Turn acts e (is, then) ends = no_end acts [] is refl ends
+no_end_hello s greeter bytes c events.Tick acts e (is, then) ends = no_end acts [] is refl ends
+no_end_hello s greeter bytes c events.Ask acts e (is, then) ends = no_end acts [] is refl ends
+no_end_hello s greeter bytes c events.CaughtUp acts e (is, then) ends = no_end acts [] is refl ends
 no_end_hello s greeter bytes c events.End acts e (is, then) ends = no_end acts (actions.Close ∷ []) is refl ends
 no_end_hello s greeter bytes c events.ReadFault acts e (is, then) ends = no_end acts (actions.Close ∷ []) is refl ends
 no_end_hello s greeter bytes c events.WriteFault acts e (is, then) ends = no_end acts (actions.Close ∷ []) is refl ends
@@ -142,22 +149,26 @@ quiet_keeps_out table (s ∷ ss) = rw (one_keeps_out (s.table == table) s, quiet
     one_keeps_out true s = refl
     one_keeps_out false s = refl
 
-finishes_taught : (roster : List Definition) (steps : List (Event × List Action)) (b : Bool) (s : SessionState) (c : Course) (table : ℕ) (rest : List Due) (acts : List Action) (e : SessionState) → s.phase ≡ phases.Open c → IsSound false (ids_of roster) steps c → c.due ≡ dues.Copy table ∷ rest → c.teaching ≡ true → all_quiet (quiet_set table c.shares) ≡ b → FinishesResync b s (record c { shares = quiet_set table c.shares; due = rest }) acts e → ends_resync acts ≡ true → HasTaughtAll roster steps s (events.Nothing table) acts
+finishes_taught : (roster : List Definition) (steps : List (Event × List Action)) (b : Bool) (s : SessionState) (c : Course) (table : ℕ) (rest : List Due) (acts : List Action) (e : SessionState) → s.phase ≡ phases.Open c → IsSound false (ids_of roster) steps c → c.due ≡ dues.Copy table ∷ rest → c.teaching ≡ true → all_quiet (quiet_set table c.shares) ≡ b → FinishesResync b s (record c { shares = quiet_set table c.shares; due = rest }) acts e → ends_resync acts ≡ true → HasTaughtAll roster steps s (events.Nothing table) acts e
 finishes_taught roster steps false s c table rest acts e stands sound due teaching all (is, then) ends = no_end acts [] is refl ends
 finishes_taught roster steps true s c table rest acts e stands sound due teaching all (is, then) ends =
     let q = quieted false (ids_of roster) steps c table rest acts sound due teaching (λ id. rw is (refl, refl)) in
     let quiet : all_quiet (shares_in (ids_of roster) q.0 q.1) ≡ true = sym (ap all_quiet q.2.0) ∙ all in
     let out : any_out (shares_in (ids_of roster) q.0 q.1) ≡ false = none_out (ids_of roster) q.0 q.1 (λ id quiets. (q.2.1 teaching id quiets).0) quiet in (
       (c, stands, sym (quiet_keeps_out table c.shares) ∙ (ap any_out q.2.0 ∙ out)),
+      (record c { shares = quiet_set table c.shares; due = rest; teaching = false }, ap (λ (x : SessionState). x.phase) then, ap any_out q.2.0 ∙ out),
       each_quiet (HasNothingLeft kinds.Resync (with_step steps (events.Nothing table) acts)) roster q.0 q.1 (λ id quiets. (q.2.1 teaching id quiets).1) quiet,
     )
 
-nothing_taught : (roster : List Definition) (steps : List (Event × List Action)) (b : Bool) (s : SessionState) (c : Course) (table : ℕ) (rest : List Due) (acts : List Action) (e : SessionState) → s.phase ≡ phases.Open c → IsSound false (ids_of roster) steps c → c.due ≡ dues.Copy table ∷ rest → c.teaching ≡ b → HasNothing b s (record c { due = rest }) table acts e → ends_resync acts ≡ true → HasTaughtAll roster steps s (events.Nothing table) acts
+nothing_taught : (roster : List Definition) (steps : List (Event × List Action)) (b : Bool) (s : SessionState) (c : Course) (table : ℕ) (rest : List Due) (acts : List Action) (e : SessionState) → s.phase ≡ phases.Open c → IsSound false (ids_of roster) steps c → c.due ≡ dues.Copy table ∷ rest → c.teaching ≡ b → HasNothing b s (record c { due = rest }) table acts e → ends_resync acts ≡ true → HasTaughtAll roster steps s (events.Nothing table) acts e
 nothing_taught roster steps true s c table rest acts e stands sound due teaching quiets ends = finishes_taught roster steps _ s c table rest acts e stands sound due teaching refl quiets ends
 nothing_taught roster steps false s c table rest acts e stands sound due teaching (is, then) ends = no_end acts [] is refl ends
 
-open_taught : (roster : List Definition) (steps : List (Event × List Action)) (s : SessionState) (c : Course) (event : Event) (acts : List Action) (e : SessionState) → s.phase ≡ phases.Open c → IsSound false (ids_of roster) steps c → GoesOpen s c event acts e → ends_resync acts ≡ true → HasTaughtAll roster steps s event acts
+open_taught : (roster : List Definition) (steps : List (Event × List Action)) (s : SessionState) (c : Course) (event : Event) (acts : List Action) (e : SessionState) → s.phase ≡ phases.Open c → IsSound false (ids_of roster) steps c → GoesOpen s c event acts e → ends_resync acts ≡ true → HasTaughtAll roster steps s event acts e
 open_taught roster steps s c events.Turn acts e stands sound (none, turns) ends = no_end_turns (table_to_ask c) s c acts e turns ends
+open_taught roster steps s c events.Tick acts e stands sound (none, (is, then)) ends = no_end acts _ is refl ends
+open_taught roster steps s c events.Ask acts e stands sound (none, (is, then)) ends = no_end acts _ is refl ends
+open_taught roster steps s c events.CaughtUp acts e stands sound (none, (is, then)) ends = no_end acts _ is refl ends
 open_taught roster steps s c (events.Bytes bytes) acts e stands sound (none, receives) ends = no_end_receives s (course_fed c bytes) [] acts e (refl, refl) receives ends
 open_taught roster steps s c (events.Copied table batch) acts e stands sound (mid, answered, (is, then)) ends = no_end acts (actions.Teach batch ∷ []) is refl ends
 open_taught roster steps s c (events.Nothing table) acts e stands sound (mid, answered, nothing) ends =
@@ -170,13 +181,13 @@ open_taught roster steps s c events.ReadFault acts e stands sound (is, then) end
 open_taught roster steps s c events.WriteFault acts e stands sound (is, then) ends = no_end acts (actions.Close ∷ []) is refl ends
 open_taught roster steps s c events.Opened acts e stands sound goes ends = absurd goes
 
-in_taught : (roster : List Definition) (steps : List (Event × List Action)) (phase : Phase) (s : SessionState) (event : Event) (acts : List Action) (e : SessionState) → s.phase ≡ phase → IsKeptIn false (ids_of roster) steps phase → GoesIn phase s event acts e → ends_resync acts ≡ true → HasTaughtAll roster steps s event acts
+in_taught : (roster : List Definition) (steps : List (Event × List Action)) (phase : Phase) (s : SessionState) (event : Event) (acts : List Action) (e : SessionState) → s.phase ≡ phase → IsKeptIn false (ids_of roster) steps phase → GoesIn phase s event acts e → ends_resync acts ≡ true → HasTaughtAll roster steps s event acts e
 in_taught roster steps (phases.New hello c) s event acts e stands kept goes ends = no_end_new s hello c event acts e goes ends
 in_taught roster steps (phases.Hello greeter bytes c) s event acts e stands kept goes ends = no_end_hello s greeter bytes c event acts e goes ends
 in_taught roster steps (phases.Open c) s event acts e stands kept goes ends = open_taught roster steps s c event acts e stands kept goes ends
 in_taught roster steps phases.Ended s event acts e stands kept goes ends = absurd goes
 
-pub ends_taught : (roster : List Definition) (begun s e : SessionState) (steps : List (Event × List Action)) (event : Event) (acts : List Action) → IsBegun roster begun → Runs begun steps s → Goes s event acts e → ends_resync acts ≡ true → HasTaughtAll roster steps s event acts
+pub ends_taught : (roster : List Definition) (begun s e : SessionState) (steps : List (Event × List Action)) (event : Event) (acts : List Action) → IsBegun roster begun → Runs begun steps s → Goes s event acts e → ends_resync acts ≡ true → HasTaughtAll roster steps s event acts e
 ends_taught roster begun s e steps event acts begins runs goes ends =
     in_taught roster steps s.phase s event acts e refl (run_kept (ids_of roster) [] steps begun s (begun_kept roster begun begins) runs) goes ends
 

@@ -26,7 +26,8 @@ use Rattle.session_core.specs.Courses.{Course, course_fed, is_held, Receives, Ar
 use Rattle.session_core.specs.Shares.{is_out}
 use Rattle.session_core.specs.Sessions.{SessionState, Goes, GoesIn, GoesOpen, ReceivesBytes, Concludes, confirmed_by, ended, going, kind_of_fault}
 use Rattle.session_core.specs.Runs.{HoldsBytes}
-use Rattle.session_core.specs.Cutting.{AreFed, IsFedOut, answers_message, without_acks}
+use Rattle.session_core.specs.Cutting.{IsFedOut, answers_message, without_acks}
+use Rattle.session_core.proofs.MachineRuns.{AreFed}
 use Rattle.session_core.proofs.BytesStay.{append_good, step_holds}
 use Rattle.session_core.proofs.EndLemmas.{silent_acks}
 use Rattle.session_core.proofs.ReceivingGoesOn.{received_good}

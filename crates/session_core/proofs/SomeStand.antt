@@ -1,8 +1,7 @@
 -- Every event that may come to a session that stays has a step, and so does every tick.
-use Rattle.std.proofs.Common.{◌≡◌, ℕ, Bool, true, false, ◌||◌, List, [], ◌∷◌, ◌++◌, Option, Some, None, refl, sym, ◌∙◌, subst, arith}
-use Rattle.std.specs.List.{list_any, AllByRecursion}
+use Rattle.std.proofs.Common.{◌≡◌, ℕ, Bool, true, false, ◌||◌, List, [], ◌∷◌, ◌++◌, Option, Some, None, refl, sym, ◌∙◌, subst}
+use Rattle.std.specs.List.{list_any}
 use Rattle.std.proofs.lemmas.Bool.{false≢true}
-use Rattle.table_types.specs.Tables.{Definition}
 use Rattle.known_state.specs.Known.{KnownState}
 use Rattle.peers_msg.specs.Integers.{IsBytes}
 use Rattle.session_core.specs.declared.action.Action.{Action}
@@ -19,14 +18,12 @@ use Rattle.session_core.specs.Shares.{is_out}
 use Rattle.session_core.specs.Courses.{Course, teaching_anew, acknowledged, ack_received, is_due, none_due}
 use Rattle.session_core.specs.Sessions.{SessionState, GoesOpen, going, ended, is_asked}
 use Rattle.session_core.specs.Runs.{HoldsBytes, BringsBytes}
-use Rattle.session_core.specs.Paces.{has_passed, heartbeat_time, silence_time, renewed, inferred, is_ahead, noted, copied_in, last_number, tables_to_leave}
-use Rattle.session_core.specs.Standing.{StandingState, is_send, paced, HandsOn, changed, finished_if, finishing, begun_resync, Does, task_at, TakesTurn, Writes, answer_of_refusal, Stands, without_tables, leaving, heartbeats, forgetting, any_left, TicksIn, Ticks, caught_up_in}
-use Rattle.session_core.specs.StandingRuns.{Happening, At, Tick, Ask, CatchUp, Happens, Lasts, BeginsToStay}
-use Rattle.session_core.specs.StandingSteps.{HearsBytes}
-use Rattle.session_core.proofs.BegunToStay.{begun_in}
+use Rattle.session_core.specs.Paces.{has_passed, heartbeat_time, silence_time, renewed, inferred, is_ahead, noted, copied_in, last_number, tables_to_leave, left_in}
+use Rattle.session_core.specs.Standing.{StandingState, is_send, paced, HandsOn, finished_if, finishing, begun_resync, Does, task_at, TakesTurn, Writes, answer_of_refusal, Stands, without_tables, leaving, heartbeats, forgetting, any_left, word_of, reopening, TicksIn}
 use Rattle.session_core.proofs.BytesStay.{step_holds}
 use Rattle.session_core.proofs.SomeStep.{some_step}
 use Rattle.session_core.proofs.StandingOnce.{asked_refusal}
+use Rattle.session_core.proofs.TickGives.{asked_word}
 
 -- ---- the session holds only bytes
 
@@ -66,23 +63,13 @@ holds_writes (phases.New hello c) s e now known acts holds writes = absurd write
 holds_writes (phases.Hello greeter bytes c) s e now known acts holds writes = absurd writes
 holds_writes phases.Ended s e now known acts holds writes = absurd writes
 
+brings_word : (b : Bool) → BringsBytes (word_of b)
+brings_word true = tt
+brings_word false = tt
+
 brings_refusal : (b : Bool) (table : ℕ) → BringsBytes (answer_of_refusal b table)
 brings_refusal true table = tt
 brings_refusal false table = tt
-
-holds_stands : (event : Event) (s e : StandingState) (now : ℕ) (acts : List Action) → HoldsBytes s.session.phase → BringsBytes event → Stands s now event acts e → HoldsBytes e.session.phase
-holds_stands (events.Bytes bytes) s e now acts holds brings (goes, paces) = step_holds s.session e.session (events.Bytes bytes) acts holds brings goes
-holds_stands events.Turn s e now acts holds brings turns = holds_turn s.session.phase s e now acts refl holds turns
-holds_stands (events.Written known) s e now acts holds brings writes = holds_writes s.session.phase s e now known acts holds writes
-holds_stands (events.Refused table) s e now acts holds brings (goes, paces) =
-    step_holds s.session e.session (answer_of_refusal (is_ahead table s.pace.progress) table) acts holds (brings_refusal (is_ahead table s.pace.progress) table) goes
-holds_stands (events.Copied table batch) s e now acts holds brings (goes, paces) = step_holds s.session e.session (events.Copied table batch) acts holds brings goes
-holds_stands events.Opened s e now acts holds brings (goes, paces) = step_holds s.session e.session events.Opened acts holds brings goes
-holds_stands events.End s e now acts holds brings (goes, paces) = step_holds s.session e.session events.End acts holds brings goes
-holds_stands events.ReadFault s e now acts holds brings (goes, paces) = step_holds s.session e.session events.ReadFault acts holds brings goes
-holds_stands events.WriteFault s e now acts holds brings (goes, paces) = step_holds s.session e.session events.WriteFault acts holds brings goes
-holds_stands (events.Nothing table) s e now acts holds brings (goes, paces) = step_holds s.session e.session (events.Nothing table) acts holds brings goes
-holds_stands (events.Settled table settled) s e now acts holds brings (goes, paces) = step_holds s.session e.session (events.Settled table settled) acts holds brings goes
 
 holds_leaving : (left : List ℕ) (c : Course) → IsBytes c.intake.unread → IsBytes (leaving left c).1.intake.unread
 holds_leaving [] c holds = holds
@@ -98,28 +85,26 @@ holds_ticks false (phases.New hello c) s e now left acts stands holds (leaves, i
 holds_ticks false (phases.Hello greeter bytes c) s e now left acts stands holds (leaves, is, same) = holds_still s e same holds
 holds_ticks false phases.Ended s e now left acts stands holds (leaves, is, same) = holds_still s e same holds
 
-holds_caught : (left : Bool) (phase : Phase) → HoldsBytes phase → HoldsBytes (changed (caught_up_in left) phase)
-holds_caught left (phases.New hello c) holds = holds
-holds_caught left (phases.Hello greeter bytes c) holds = holds
-holds_caught left (phases.Open c) holds = holds
-holds_caught left phases.Ended holds = tt
-
-holds_happens : (one : Happening) (s e : StandingState) → HoldsBytes s.session.phase → HearsBytes one → Happens s one e → HoldsBytes e.session.phase
-holds_happens (At now event acts) s e holds hears stands = holds_stands event s e now acts holds hears stands
-holds_happens (Tick now left acts) s e holds hears (asked, ticks) = holds_ticks _ s.session.phase s e now left acts refl holds ticks
-holds_happens (Ask now) s e holds hears sent = subst (λ (x : StandingState). HoldsBytes x.session.phase) (sym sent) holds
-holds_happens CatchUp s e holds hears caught = subst (λ (x : StandingState). HoldsBytes x.session.phase) (sym caught) (holds_caught s.pace.left s.session.phase holds)
-
-holds_lasts : (steps : List Happening) (s e : StandingState) → HoldsBytes s.session.phase → AllByRecursion HearsBytes steps → Lasts s steps e → HoldsBytes e.session.phase
-holds_lasts [] s e holds hears here = holds_still s e here holds
-holds_lasts (one ∷ steps) s e holds hears (mid, happens, lasts) = holds_lasts steps mid e (holds_happens one s mid holds hears.0 happens) hears.1 lasts
-
-begun_holds : (roster : List Definition) (begun : StandingState) → BeginsToStay roster begun → HoldsBytes begun.session.phase
-begun_holds roster begun begins = begun_in HoldsBytes roster begun ((λ hello up_to_date i. omega arith), (λ own peers up_to_date. ((λ i. omega arith), (λ i. omega arith)))) begins
+pub holds_stands : (event : Event) (s e : StandingState) (now : ℕ) (acts : List Action) → HoldsBytes s.session.phase → BringsBytes event → Stands s now event acts e → HoldsBytes e.session.phase
+holds_stands (events.Bytes bytes) s e now acts holds brings (goes, paces) = step_holds s.session e.session (events.Bytes bytes) acts holds brings goes
+holds_stands events.Turn s e now acts holds brings turns = holds_turn s.session.phase s e now acts refl holds turns
+holds_stands (events.Written known) s e now acts holds brings writes = holds_writes s.session.phase s e now known acts holds writes
+holds_stands (events.Refused table) s e now acts holds brings (goes, paces) =
+    step_holds s.session e.session (answer_of_refusal (is_ahead table s.pace.progress) table) acts holds (brings_refusal (is_ahead table s.pace.progress) table) goes
+holds_stands (events.Copied table batch) s e now acts holds brings (goes, paces) = step_holds s.session e.session (events.Copied table batch) acts holds brings goes
+holds_stands events.Opened s e now acts holds brings (goes, paces) = step_holds s.session e.session events.Opened acts holds brings goes
+holds_stands events.Ask s e now acts holds brings (goes, paces) = step_holds s.session e.session events.Ask acts holds brings goes
+holds_stands events.CaughtUp s e now acts holds brings (goes, paces) = step_holds s.session e.session (word_of s.pace.left) acts holds (brings_word s.pace.left) goes
+holds_stands events.Tick s e now acts holds brings (asked, (left, rest, ticks, is)) = holds_ticks _ s.session.phase s e now left rest refl holds ticks
+holds_stands events.End s e now acts holds brings (goes, paces) = step_holds s.session e.session events.End acts holds brings goes
+holds_stands events.ReadFault s e now acts holds brings (goes, paces) = step_holds s.session e.session events.ReadFault acts holds brings goes
+holds_stands events.WriteFault s e now acts holds brings (goes, paces) = step_holds s.session e.session events.WriteFault acts holds brings goes
+holds_stands (events.Nothing table) s e now acts holds brings (goes, paces) = step_holds s.session e.session (events.Nothing table) acts holds brings goes
+holds_stands (events.Settled table settled) s e now acts holds brings (goes, paces) = step_holds s.session e.session (events.Settled table settled) acts holds brings goes
 
 -- ---- some step
 
-abbrev HasStep : StandingState → ℕ → Event → Type 0
+abbrev pub HasStep : StandingState → ℕ → Event → Type 0
 HasStep s now event = (acts : List Action) × (e : StandingState) × Stands s now event acts e
 
 some_hands : (event : Event) (s : StandingState) (now : ℕ) → HoldsBytes s.session.phase → BringsBytes event → is_asked s.session.phase event ≡ true → (acts : List Action) × (e : StandingState) × HandsOn s now event acts e
@@ -174,7 +159,26 @@ some_writes (phases.New hello c) s now known holds asked = absurd (false≢true 
 some_writes (phases.Hello greeter bytes c) s now known holds asked = absurd (false≢true asked)
 some_writes phases.Ended s now known holds asked = absurd (false≢true asked)
 
-some_event : (event : Event) (s : StandingState) (now : ℕ) → HoldsBytes s.session.phase → BringsBytes event → is_asked s.session.phase event ≡ true → HasStep s now event
+some_tick : (silent : Bool) (phase : Phase) (s : StandingState) (now : ℕ) → (left : List ℕ) × (acts : List Action) × (e : StandingState) × TicksIn silent phase s now left acts e
+some_tick true phase s now = ([], actions.Close ∷ [], record { session = ended s.session; pace = s.pace }, (refl, refl, refl, refl))
+some_tick false (phases.Open c) s now =
+    let left : List ℕ = tables_to_leave now s.pace.progress c.shares in
+    let acts : List Action = (leaving left c).0 ++ heartbeats (has_passed heartbeat_time s.pace.sent now) in (
+      left,
+      acts,
+      record { session = going (forgetting left s.session) (leaving left c).1; pace = record s.pace { sent = renewed (list_any is_send acts) now s.pace.sent; left = any_left left || s.pace.left; progress = left_in left s.pace.progress } },
+      (refl, refl, refl, refl),
+    )
+some_tick false (phases.New hello c) s now = ([], [], s, (refl, refl, refl))
+some_tick false (phases.Hello greeter bytes c) s now = ([], [], s, (refl, refl, refl))
+some_tick false phases.Ended s now = ([], [], s, (refl, refl, refl))
+
+pub some_ticks : (s : StandingState) (now : ℕ) → is_asked s.session.phase events.Tick ≡ true → HasStep s now events.Tick
+some_ticks s now asked =
+    let one = some_tick (has_passed silence_time s.pace.heard now) s.session.phase s now in
+    (reopening one.0 ++ one.1, one.2, (asked, (one.0, one.1, one.3, refl)))
+
+pub some_event : (event : Event) (s : StandingState) (now : ℕ) → HoldsBytes s.session.phase → BringsBytes event → is_asked s.session.phase event ≡ true → HasStep s now event
 some_event (events.Bytes bytes) s now holds brings asked =
     let one = some_step s.session (events.Bytes bytes) holds brings asked in
     (one.0, record { session = one.1; pace = record (paced s.session.phase now (events.Bytes bytes) one.0 s.pace) { progress = noted one.0 s.pace.progress } }, (one.2, refl))
@@ -190,32 +194,11 @@ some_event (events.Copied table batch) s now holds brings asked =
       (one.2, refl),
     )
 some_event events.Opened s now holds brings asked = some_hands events.Opened s now holds brings asked
+some_event events.Ask s now holds brings asked = some_hands events.Ask s now holds brings asked
+some_event events.CaughtUp s now holds brings asked = some_hands (word_of s.pace.left) s now holds (brings_word s.pace.left) (asked_word s.session.phase s.pace.left ∙ asked)
+some_event events.Tick s now holds brings asked = some_ticks s now asked
 some_event events.End s now holds brings asked = some_hands events.End s now holds brings asked
 some_event events.ReadFault s now holds brings asked = some_hands events.ReadFault s now holds brings asked
 some_event events.WriteFault s now holds brings asked = some_hands events.WriteFault s now holds brings asked
 some_event (events.Nothing table) s now holds brings asked = some_hands (events.Nothing table) s now holds brings asked
 some_event (events.Settled table settled) s now holds brings asked = some_hands (events.Settled table settled) s now holds brings asked
-
-pub some_stands : (roster : List Definition) (begun s : StandingState) (steps : List Happening) (now : ℕ) (event : Event) → BeginsToStay roster begun → Lasts begun steps s → AllByRecursion HearsBytes steps → BringsBytes event → is_asked s.session.phase event ≡ true → (acts : List Action) × (e : StandingState) × Stands s now event acts e
-some_stands roster begun s steps now event begins lasts hears brings asked = some_event event s now (holds_lasts steps begun s (begun_holds roster begun begins) hears lasts) brings asked
-
--- ---- some tick
-
-some_tick : (silent : Bool) (phase : Phase) (s : StandingState) (now : ℕ) → (left : List ℕ) × (acts : List Action) × (e : StandingState) × TicksIn silent phase s now left acts e
-some_tick true phase s now = ([], actions.Close ∷ [], record { session = ended s.session; pace = s.pace }, (refl, refl, refl, refl))
-some_tick false (phases.Open c) s now =
-    let left : List ℕ = tables_to_leave now s.pace.progress c.shares in
-    let acts : List Action = (leaving left c).0 ++ heartbeats (has_passed heartbeat_time s.pace.sent now) in (
-      left,
-      acts,
-      record { session = going (forgetting left s.session) (leaving left c).1; pace = record s.pace { sent = renewed (list_any is_send acts) now s.pace.sent; left = any_left left || s.pace.left } },
-      (refl, refl, refl, refl),
-    )
-some_tick false (phases.New hello c) s now = ([], [], s, (refl, refl, refl))
-some_tick false (phases.Hello greeter bytes c) s now = ([], [], s, (refl, refl, refl))
-some_tick false phases.Ended s now = ([], [], s, (refl, refl, refl))
-
-pub some_ticks : (s : StandingState) (now : ℕ) → is_asked s.session.phase events.Turn ≡ true → (left : List ℕ) × (acts : List Action) × (e : StandingState) × Ticks s now left acts e
-some_ticks s now asked =
-    let one = some_tick (has_passed silence_time s.pace.heard now) s.session.phase s now in
-    (one.0, one.1, one.2, (asked, one.3))

@@ -1,13 +1,12 @@
 -- Every event that may happen has a step.
 use Rattle.std.proofs.Common.{◌≡◌, ℕ, Bool, true, false, List, [], ◌∷◌, ◌++◌, Option, Some, None, refl, ap, ◌∙◌}
 use Rattle.std.specs.Prelude.{◌==◌, drop}
-use Rattle.std.specs.List.{AllByRecursion}
 use Rattle.std.proofs.lemmas.Bool.{eqb-true, false≢true}
-use Rattle.table_types.specs.Tables.{Definition}
 use Rattle.table_types.specs.declared.copies.Settled.{Settled}
 use Rattle.table_types.specs.declared.copies.Settled.TheVariants as settles
 use Rattle.table_types.specs.declared.version.Version.{Version}
 use Rattle.peers_msg.specs.Integers.{IsBytes}
+use Rattle.peers_msg.specs.declared.control.Control.TheVariants as controls
 use Rattle.peers_msg.specs.declared.control.ErrorKind.TheVariants as kinds
 use Rattle.peers_hello.specs.declared.hello.Hello.{Hello}
 use Rattle.peers_hello.specs.declared.hello.Answer.{Answer}
@@ -27,18 +26,21 @@ use Rattle.session_core.specs.declared.phase.Greeter.TheVariants as greeters
 use Rattle.session_core.specs.Phases.{Phase}
 use Rattle.session_core.specs.Phases as phases
 use Rattle.session_core.specs.Actions.{reopens, sends_control, status_text}
-use Rattle.session_core.specs.Courses.{Course, Answered, course_fed, finished, is_due, is_same_due, kind_of, none_due, table_to_ask, teaching_anew}
+use Rattle.session_core.specs.Courses.{Course, Answered, course_fed, finished, is_due, is_same_due, kind_of, none_due, table_to_ask, teaching_anew, caught_up}
 use Rattle.session_core.specs.Shares.{out_set}
-use Rattle.session_core.specs.Runs.{BringsBytes, HoldsBytes, IsBegun, Runs}
+use Rattle.session_core.specs.Runs.{BringsBytes, HoldsBytes}
 use Rattle.session_core.specs.Sessions.{SessionState, Accepts, Connects, FinishesResync, Goes, GoesHello, GoesIn, GoesNew, GoesOpen, Greets, HasNothing, IsWelcomed, Settles, StartsPendingResync, Turns, ended, going, in_phase, is_asked, is_asked_hello, is_asked_new, is_asked_open, first_word, falling_back, falls_back, opening, speaking}
 use Rattle.session_core.proofs.ReceivingGoesOn.{received_some}
-use Rattle.session_core.proofs.BytesStay.{append_good, fed_good, run_holds}
+use Rattle.session_core.proofs.BytesStay.{append_good, fed_good}
 
 -- ---- New
 
 some_new : (s : SessionState) (hello : Hello) (c : Course) (event : Event) → is_asked_new event ≡ true → (acts : List Action) × (e : SessionState) × GoesNew s hello c event acts e
 some_new s hello c events.Opened is = (actions.Send (hello_text hello) ∷ [], in_phase s (phases.Hello (greeters.Connects hello.version) [] c), (refl, refl))
 some_new s hello c events.Turn is = ([], in_phase s (phases.New hello c), (refl, refl))
+some_new s hello c events.Tick is = ([], in_phase s (phases.New hello c), (refl, refl))
+some_new s hello c events.Ask is = ([], in_phase s (phases.New hello c), (refl, refl))
+some_new s hello c events.CaughtUp is = ([], in_phase s (phases.New hello (caught_up c)), (refl, refl))
 some_new s hello c events.End is = (actions.Close ∷ [], ended s, (refl, refl))
 some_new s hello c events.ReadFault is = (actions.Close ∷ [], ended s, (refl, refl))
 some_new s hello c events.WriteFault is = (actions.Close ∷ [], ended s, (refl, refl))
@@ -73,6 +75,9 @@ some_hello : (s : SessionState) (greeter : Greeter) (bytes : List ℕ) (c : Cour
     → (acts : List Action) × (e : SessionState) × GoesHello s greeter bytes c event acts e
 some_hello s greeter bytes c (events.Bytes piece) holds brings is = some_greeting greeter s (bytes ++ piece) c (append_good bytes piece holds.0 brings) holds.1
 some_hello s greeter bytes c events.Turn holds brings is = ([], in_phase s (phases.Hello greeter bytes c), (refl, refl))
+some_hello s greeter bytes c events.Tick holds brings is = ([], in_phase s (phases.Hello greeter bytes c), (refl, refl))
+some_hello s greeter bytes c events.Ask holds brings is = ([], in_phase s (phases.Hello greeter bytes c), (refl, refl))
+some_hello s greeter bytes c events.CaughtUp holds brings is = ([], in_phase s (phases.Hello greeter bytes (caught_up c)), (refl, refl))
 some_hello s greeter bytes c events.End holds brings is = (actions.Close ∷ [], ended s, (refl, refl))
 some_hello s greeter bytes c events.ReadFault holds brings is = (actions.Close ∷ [], ended s, (refl, refl))
 some_hello s greeter bytes c events.WriteFault holds brings is = (actions.Close ∷ [], ended s, (refl, refl))
@@ -135,6 +140,9 @@ some_open : (s : SessionState) (c : Course) (event : Event) → IsBytes c.intake
 some_open s c events.Turn unread brings is =
     let turns = some_turn (table_to_ask c) s c in
     (turns.0, turns.1, (nothing_due c.due is, turns.2))
+some_open s c events.Tick unread brings is = ([], going s c, (nothing_due c.due is, (refl, refl)))
+some_open s c events.Ask unread brings is = (sends_control controls.ResyncRequest ∷ [], going s c, (nothing_due c.due is, (refl, refl)))
+some_open s c events.CaughtUp unread brings is = ([], going s (caught_up c), (nothing_due c.due is, (refl, refl)))
 some_open s c (events.Bytes bytes) unread brings is =
     let receives = received_some s (course_fed c bytes) [] (append_good c.intake.unread bytes unread brings) in
     (receives.0, receives.1, (nothing_due c.due is, receives.2))
@@ -174,7 +182,12 @@ some_in phases.Ended s event holds brings is = absurd (false≢true is)
 pub some_step : (s : SessionState) (event : Event) → HoldsBytes s.phase → BringsBytes event → is_asked s.phase event ≡ true → (acts : List Action) × (e : SessionState) × Goes s event acts e
 some_step s event holds brings is = some_in s.phase s event holds brings is
 
-pub some_step_after : (roster : List Definition) (begun s : SessionState) (steps : List (Event × List Action)) (event : Event)
-    → IsBegun roster begun → Runs begun steps s → AllByRecursion (λ step. BringsBytes step.0) steps → BringsBytes event → is_asked s.phase event ≡ true
-    → (acts : List Action) × (e : SessionState) × Goes s event acts e
-some_step_after roster begun s steps event begins runs all brings is = some_step s event (run_holds roster begun s steps begins runs all) brings is
+-- a tick needs no bytes
+ticks_in : (phase : Phase) (s : SessionState) → is_asked phase events.Tick ≡ true → (e : SessionState) × GoesIn phase s events.Tick [] e
+ticks_in (phases.New hello c) s is = (in_phase s (phases.New hello c), (refl, refl))
+ticks_in (phases.Hello greeter bytes c) s is = (in_phase s (phases.Hello greeter bytes c), (refl, refl))
+ticks_in (phases.Open c) s is = (going s c, (nothing_due c.due is, (refl, refl)))
+ticks_in phases.Ended s is = absurd (false≢true is)
+
+pub ticks_anyway : (s : SessionState) → is_asked s.phase events.Tick ≡ true → (e : SessionState) × Goes s events.Tick [] e
+ticks_anyway s is = ticks_in s.phase s is

@@ -23,10 +23,12 @@ use Rattle.session_core.specs.Phases.{Phase}
 use Rattle.session_core.specs.Phases as phases
 use Rattle.session_core.specs.Actions.{reopens}
 use Rattle.session_core.specs.Courses.{Course, table_to_ask, ack_received, acknowledged, teaching_anew}
-use Rattle.session_core.specs.Sessions.{SessionState, GoesIn, GoesNew, GoesHello, GoesOpen, Turns, HasNothing, FinishesResync, StartsPendingResync, Settles}
-use Rattle.session_core.specs.Paces.{Pace, progress_of, with_copy, copied_in, last_number, with_ack, acknowledged_in, ack_in, noted_one, noted, is_number, inferred, is_ahead}
-use Rattle.session_core.specs.Standing.{StandingState, finished_if, finishing, begun_resync, Does, task_at, TakesTurn, Writes, answer_of_refusal, Stands, TicksIn}
-use Rattle.session_core.specs.StandingRuns.{Happening, At, Tick, Ask, CatchUp, Happens, Lasts, BeginsToStay, is_ack_of, acknowledges, brings_ack, was_acknowledged}
+use Rattle.session_core.specs.Sessions.{SessionState, GoesIn, GoesNew, GoesHello, GoesOpen, Turns, HasNothing, FinishesResync, StartsPendingResync, Settles, Goes}
+use Rattle.session_core.specs.Paces.{Pace, progress_of, with_copy, copied_in, last_number, with_ack, acknowledged_in, with_row, received_in, with_leave, left_in, noted_one, noted, is_number, inferred, is_ahead}
+use Rattle.session_core.specs.Standing.{StandingState, finished_if, finishing, begun_resync, Does, task_at, TakesTurn, Writes, answer_of_refusal, Stands, TicksIn, word_of, reopening, leaving, without_tables, heartbeats}
+use Rattle.session_core.specs.Happenings.{Happening, is_ack_of, acknowledges, brings_ack, was_acknowledged}
+use Rattle.session_core.proofs.MachineRuns.{Happens, Lasts, BeginsToStay, at}
+use Rattle.session_core.proofs.TickGives.{after_reopening}
 
 -- ---- what was noted was received
 
@@ -77,6 +79,14 @@ real_acknowledged : (steps : List Happening) (table number : ℕ) (ps : List Pro
 real_acknowledged steps table number [] is real = tt
 real_acknowledged steps table number (p ∷ ps) is real = (ack_at steps table number p is real.0, real_acknowledged steps table number ps is real.1)
 
+real_received : (steps : List Happening) (table number : ℕ) (ps : List Progress) → AreReal steps ps → AreReal steps (received_in table number ps)
+real_received steps table number [] real = tt
+real_received steps table number (p ∷ ps) real = (copied_one steps (p.table == table) p (with_row number p) refl refl real.0, real_received steps table number ps real.1)
+
+real_left : (steps : List Happening) (left : List ℕ) (ps : List Progress) → AreReal steps ps → AreReal steps (left_in left ps)
+real_left steps left [] real = tt
+real_left steps left (p ∷ ps) real = (copied_one steps (list_any (λ table. table == p.table) left) p (with_leave p) refl refl real.0, real_left steps left ps real.1)
+
 -- what each of the actions acknowledges was received
 abbrev AreBrought : List Happening → List Action → Type 0
 AreBrought steps acts = (table number : ℕ) → acknowledges table number acts ≡ true → was_acknowledged table number steps ≡ true
@@ -87,10 +97,10 @@ same_ack table number acts = rw (eq-eqb table table refl, eq-eqb number number r
 brought_rest : (steps : List Happening) (action : Action) (acts : List Action) → AreBrought steps (action ∷ acts) → AreBrought steps acts
 brought_rest steps action acts brought table number is = brought table number (rw is (or_true (is_ack_of table number action)))
 
-real_one : (steps : List Happening) (action : Action) (acts : List Action) (ps : List Progress) → AreBrought steps (action ∷ acts) → AreReal steps ps → AreReal steps (noted_one (ack_in action) ps)
+real_one : (steps : List Happening) (action : Action) (acts : List Action) (ps : List Progress) → AreBrought steps (action ∷ acts) → AreReal steps ps → AreReal steps (noted_one action ps)
 real_one steps (actions.Ack table number) acts ps brought real = real_acknowledged steps table number ps (brought table number (same_ack table number acts)) real
 real_one steps (actions.Send bytes) acts ps brought real = real
-real_one steps (actions.Learn u) acts ps brought real = real
+real_one steps (actions.Learn u) acts ps brought real = real_received steps u.table u.number ps real
 real_one steps (actions.Reopen table) acts ps brought real = real
 real_one steps (actions.Copy table kind) acts ps brought real = real
 real_one steps (actions.Teach batch) acts ps brought real = real
@@ -100,12 +110,12 @@ real_one steps actions.Close acts ps brought real = real
 real_noted : (steps : List Happening) (acts : List Action) (ps : List Progress) → AreBrought steps acts → AreReal steps ps → AreReal steps (noted acts ps)
 real_noted steps [] ps brought real = real
 real_noted steps (action ∷ acts) ps brought real =
-    real_noted steps acts (noted_one (ack_in action) ps) (brought_rest steps action acts brought) (real_one steps action acts ps brought real)
+    real_noted steps acts (noted_one action ps) (brought_rest steps action acts brought) (real_one steps action acts ps brought real)
 
 -- the bytes of the last step bring what its actions acknowledge
-last_brings : (steps : List Happening) (now : ℕ) (bytes : List ℕ) (acts : List Action) (table number : ℕ) → acknowledges table number acts ≡ true → was_acknowledged table number (steps ++ (At now (events.Bytes bytes) acts ∷ [])) ≡ true
+last_brings : (steps : List Happening) (now : ℕ) (bytes : List ℕ) (acts : List Action) (table number : ℕ) → acknowledges table number acts ≡ true → was_acknowledged table number (steps ++ (at now (events.Bytes bytes) acts ∷ [])) ≡ true
 last_brings steps now bytes acts table number is =
-    list_any-append (brings_ack table number) steps (At now (events.Bytes bytes) acts ∷ []) ∙ rw is (or_true (list_any (brings_ack table number) steps))
+    list_any-append (brings_ack table number) steps (at now (events.Bytes bytes) acts ∷ []) ∙ rw is (or_true (list_any (brings_ack table number) steps))
 
 -- ---- what else acknowledges
 
@@ -183,6 +193,9 @@ none_reopens (s ∷ ss) table number = none_reopens ss table number
 none_new : (s : SessionState) (hello : Hello) (c : Course) (event : Event) (acts : List Action) (e : SessionState) → GoesNew s hello c event acts e → AcksNone acts
 none_new s hello c events.Opened acts e (is, then) = none_is acts _ is (λ table number. refl)
 none_new s hello c events.Turn acts e (is, then) = none_is acts [] is (λ table number. refl)
+none_new s hello c events.Tick acts e (is, then) = none_is acts [] is (λ table number. refl)
+none_new s hello c events.Ask acts e (is, then) = none_is acts [] is (λ table number. refl)
+none_new s hello c events.CaughtUp acts e (is, then) = none_is acts [] is (λ table number. refl)
 none_new s hello c events.End acts e (is, then) = none_is acts (actions.Close ∷ []) is (λ table number. refl)
 none_new s hello c events.ReadFault acts e (is, then) = none_is acts (actions.Close ∷ []) is (λ table number. refl)
 none_new s hello c events.WriteFault acts e (is, then) = none_is acts (actions.Close ∷ []) is (λ table number. refl)
@@ -195,6 +208,9 @@ none_new s hello c (events.Refused table) acts e goes = absurd goes
 
 none_hello : (s : SessionState) (greeter : Greeter) (bytes : List ℕ) (c : Course) (event : Event) (acts : List Action) (e : SessionState) → IsOther event → GoesHello s greeter bytes c event acts e → AcksNone acts
 none_hello s greeter bytes c events.Turn acts e other (is, then) = none_is acts [] is (λ table number. refl)
+none_hello s greeter bytes c events.Tick acts e other (is, then) = none_is acts [] is (λ table number. refl)
+none_hello s greeter bytes c events.Ask acts e other (is, then) = none_is acts [] is (λ table number. refl)
+none_hello s greeter bytes c events.CaughtUp acts e other (is, then) = none_is acts [] is (λ table number. refl)
 none_hello s greeter bytes c events.End acts e other (is, then) = none_is acts (actions.Close ∷ []) is (λ table number. refl)
 none_hello s greeter bytes c events.ReadFault acts e other (is, then) = none_is acts (actions.Close ∷ []) is (λ table number. refl)
 none_hello s greeter bytes c events.WriteFault acts e other (is, then) = none_is acts (actions.Close ∷ []) is (λ table number. refl)
@@ -229,6 +245,9 @@ none_settles settles.Older s c asked acts e (is, then) = none_is acts [] is (λ 
 
 none_open : (s : SessionState) (c : Course) (event : Event) (acts : List Action) (e : SessionState) → IsOther event → GoesOpen s c event acts e → AcksNone acts
 none_open s c events.Turn acts e other (due, turns) = none_turns (table_to_ask c) s c acts e turns
+none_open s c events.Tick acts e other (due, (is, then)) = none_is acts _ is (λ table number. refl)
+none_open s c events.Ask acts e other (due, (is, then)) = none_is acts _ is (λ table number. refl)
+none_open s c events.CaughtUp acts e other (due, (is, then)) = none_is acts _ is (λ table number. refl)
 none_open s c (events.Bytes bytes) acts e other goes = absurd other
 none_open s c (events.Copied asked batch) acts e other (mid, answered, (is, then)) = none_is acts (actions.Teach batch ∷ []) is (λ table number. refl)
 none_open s c (events.Nothing asked) acts e other (mid, answered, nothing) = none_nothing mid.teaching s mid asked acts e nothing
@@ -266,22 +285,52 @@ none_turn (phases.New hello c) s e now acts (goes, pace) = none_in s.session.pha
 none_turn (phases.Hello greeter bytes c) s e now acts (goes, pace) = none_in s.session.phase s.session events.Turn acts e.session tt goes
 none_turn phases.Ended s e now acts (goes, pace) = none_in s.session.phase s.session events.Turn acts e.session tt goes
 
+other_word : (b : Bool) → IsOther (word_of b)
+other_word true = tt
+other_word false = tt
+
+none_leaving : (left : List ℕ) (c : Course) → AcksNone (leaving left c).0
+none_leaving [] c table number = refl
+none_leaving (id ∷ ids) c table number = none_finished _ (without_tables (id ∷ ids) c) table number
+
+none_beats : (b : Bool) → AcksNone (heartbeats b)
+none_beats true table number = refl
+none_beats false table number = refl
+
+none_ticks : (silent : Bool) (phase : Phase) (s e : StandingState) (now : ℕ) (left : List ℕ) (rest : List Action) → TicksIn silent phase s now left rest e → AcksNone rest
+none_ticks true phase s e now left rest (leaves, is, session, pace) = none_is rest (actions.Close ∷ []) is (λ table number. refl)
+none_ticks false (phases.Open c) s e now left rest (leaves, is, session, pace) = none_is rest _ is
+    (λ table number. list_any-append (is_ack_of table number) (leaving left c).0 (heartbeats _) ∙ rw (none_leaving left c table number) (none_beats _ table number))
+none_ticks false (phases.New hello c) s e now left rest (leaves, is, same) = none_is rest [] is (λ table number. refl)
+none_ticks false (phases.Hello greeter bytes c) s e now left rest (leaves, is, same) = none_is rest [] is (λ table number. refl)
+none_ticks false phases.Ended s e now left rest (leaves, is, same) = none_is rest [] is (λ table number. refl)
+
+none_after : (left : List ℕ) (rest : List Action) → AcksNone rest → AcksNone (reopening left ++ rest)
+none_after left rest none table number = after_reopening (is_ack_of table number) (λ id. refl) left rest ∙ none table number
+
 other_refusal : (b : Bool) (table : ℕ) → IsOther (answer_of_refusal b table)
 other_refusal true table = tt
 other_refusal false table = tt
+
+-- a lesson that was written asks for nothing in a plain session
+written_none : (phase : Phase) (s : SessionState) (known : KnownState) (acts : List Action) (e : SessionState) → GoesIn phase s (events.Written known) acts e → AcksNone acts
+written_none (phases.Open c) s known acts e (mid, answered, is, ends) = none_is acts [] is (λ table number. refl)
+written_none (phases.New hello c) s known acts e goes = absurd goes
+written_none (phases.Hello greeter bytes c) s known acts e goes = absurd goes
+written_none phases.Ended s known acts e goes = absurd goes
 
 -- ---- one event
 
 -- what an event passes on was received then or before
 abbrev IsBrought : List Happening → ℕ → Event → List Action → Type 0
-IsBrought steps now event acts = AreBrought (steps ++ (At now event acts ∷ [])) acts
+IsBrought steps now event acts = AreBrought (steps ++ (at now event acts ∷ [])) acts
 
 brought_none : (steps : List Happening) (now : ℕ) (event : Event) (acts : List Action) → AcksNone acts → IsBrought steps now event acts
 brought_none steps now event acts none = λ table number is. absurd (false≢true (sym (none table number) ∙ is))
 
 brought_writes : (phase : Phase) (steps : List Happening) (s e : StandingState) (now : ℕ) (known : KnownState) (acts : List Action) → AreReal steps s.pace.progress → Writes phase s now known acts e → IsBrought steps now (events.Written known) acts
 brought_writes (phases.Open c) steps s e now known acts real (goes, acted, pace) = λ table number is.
-    one_more steps (At now (events.Written known) acts) table (Some number)
+    one_more steps (at now (events.Written known) acts) table (Some number)
     (inferred_acts steps c s.pace.progress _ table number refl real (sym (ap (acknowledges table number) acted) ∙ is))
 brought_writes (phases.New hello c) steps s e now known acts real writes = absurd writes
 brought_writes (phases.Hello greeter bytes c) steps s e now known acts real writes = absurd writes
@@ -294,6 +343,9 @@ brought (events.Copied table batch) steps s e now acts real (goes, pace) = broug
 brought (events.Written known) steps s e now acts real writes = brought_writes s.session.phase steps s e now known acts real writes
 brought (events.Refused table) steps s e now acts real (goes, pace) = brought_none steps now (events.Refused table) acts (none_in s.session.phase s.session _ acts e.session (other_refusal (is_ahead table s.pace.progress) table) goes)
 brought events.Opened steps s e now acts real (goes, pace) = brought_none steps now events.Opened acts (none_in s.session.phase s.session events.Opened acts e.session tt goes)
+brought events.Ask steps s e now acts real (goes, pace) = brought_none steps now events.Ask acts (none_in s.session.phase s.session events.Ask acts e.session tt goes)
+brought events.CaughtUp steps s e now acts real (goes, pace) = brought_none steps now events.CaughtUp acts (none_in s.session.phase s.session _ acts e.session (other_word s.pace.left) goes)
+brought events.Tick steps s e now acts real (asked, (left, rest, ticks, is)) = brought_none steps now events.Tick acts (none_is acts _ is (none_after left rest (none_ticks _ s.session.phase s e now left rest ticks)))
 brought events.End steps s e now acts real (goes, pace) = brought_none steps now events.End acts (none_in s.session.phase s.session events.End acts e.session tt goes)
 brought events.ReadFault steps s e now acts real (goes, pace) = brought_none steps now events.ReadFault acts (none_in s.session.phase s.session events.ReadFault acts e.session tt goes)
 brought events.WriteFault steps s e now acts real (goes, pace) = brought_none steps now events.WriteFault acts (none_in s.session.phase s.session events.WriteFault acts e.session tt goes)
@@ -306,54 +358,55 @@ brought (events.Settled table settled) steps s e now acts real (goes, pace) = br
 still_real : (steps : List Happening) (one : Happening) (ps qs : List Progress) → qs ≡ ps → AreReal steps ps → AreReal (steps ++ (one ∷ [])) qs
 still_real steps one ps qs same real = subst (AreReal (steps ++ (one ∷ []))) (sym same) (real_more steps one ps real)
 
-does_real : (task : Task) (steps : List Happening) (s e : StandingState) (c : Course) (now : ℕ) (acts : List Action) → AreReal steps s.pace.progress → Does task s c now acts e → AreReal (steps ++ (At now events.Turn acts ∷ [])) e.pace.progress
+does_real : (task : Task) (steps : List Happening) (s e : StandingState) (c : Course) (now : ℕ) (acts : List Action) → AreReal steps s.pace.progress → Does task s c now acts e → AreReal (steps ++ (at now events.Turn acts ∷ [])) e.pace.progress
 does_real tasks.Copy steps s e c now acts real (goes, pace) = still_real steps _ s.pace.progress e.pace.progress (ap (λ (p : Pace). p.progress) pace) real
 does_real tasks.Rest steps s e c now acts real (due, is, same) = still_real steps _ s.pace.progress e.pace.progress (ap (λ (x : StandingState). x.pace.progress) same) real
 does_real tasks.Begin steps s e c now acts real (due, is, session, pace) = still_real steps _ s.pace.progress e.pace.progress (ap (λ (p : Pace). p.progress) pace) real
 
-turn_real : (phase : Phase) (steps : List Happening) (s e : StandingState) (now : ℕ) (acts : List Action) → AreReal steps s.pace.progress → TakesTurn phase s now acts e → AreReal (steps ++ (At now events.Turn acts ∷ [])) e.pace.progress
+turn_real : (phase : Phase) (steps : List Happening) (s e : StandingState) (now : ℕ) (acts : List Action) → AreReal steps s.pace.progress → TakesTurn phase s now acts e → AreReal (steps ++ (at now events.Turn acts ∷ [])) e.pace.progress
 turn_real (phases.Open c) steps s e now acts real does = does_real (task_at now s.pace c) steps s e c now acts real does
 turn_real (phases.New hello c) steps s e now acts real (goes, pace) = still_real steps _ s.pace.progress e.pace.progress (ap (λ (p : Pace). p.progress) pace) real
 turn_real (phases.Hello greeter bytes c) steps s e now acts real (goes, pace) = still_real steps _ s.pace.progress e.pace.progress (ap (λ (p : Pace). p.progress) pace) real
 turn_real phases.Ended steps s e now acts real (goes, pace) = still_real steps _ s.pace.progress e.pace.progress (ap (λ (p : Pace). p.progress) pace) real
 
-writes_real : (phase : Phase) (steps : List Happening) (s e : StandingState) (now : ℕ) (known : KnownState) (acts : List Action) → AreReal steps s.pace.progress → Writes phase s now known acts e → AreReal (steps ++ (At now (events.Written known) acts ∷ [])) e.pace.progress
+writes_real : (phase : Phase) (steps : List Happening) (s e : StandingState) (now : ℕ) (known : KnownState) (acts : List Action) → AreReal steps s.pace.progress → Writes phase s now known acts e → AreReal (steps ++ (at now (events.Written known) acts ∷ [])) e.pace.progress
 writes_real (phases.Open c) steps s e now known acts real (goes, acted, pace) = still_real steps _ s.pace.progress e.pace.progress (ap (λ (p : Pace). p.progress) pace) real
 writes_real (phases.New hello c) steps s e now known acts real writes = absurd writes
 writes_real (phases.Hello greeter bytes c) steps s e now known acts real writes = absurd writes
 writes_real phases.Ended steps s e now known acts real writes = absurd writes
 
-stands_real : (event : Event) (steps : List Happening) (s e : StandingState) (now : ℕ) (acts : List Action) → AreReal steps s.pace.progress → Stands s now event acts e → AreReal (steps ++ (At now event acts ∷ [])) e.pace.progress
+ticks_real : (silent : Bool) (phase : Phase) (steps : List Happening) (one : Happening) (s e : StandingState) (now : ℕ) (left : List ℕ) (acts : List Action) → AreReal steps s.pace.progress → TicksIn silent phase s now left acts e → AreReal (steps ++ (one ∷ [])) e.pace.progress
+ticks_real true phase steps one s e now left acts real (leaves, is, session, pace) = still_real steps _ s.pace.progress e.pace.progress (ap (λ (p : Pace). p.progress) pace) real
+ticks_real false (phases.Open c) steps one s e now left acts real (leaves, is, session, pace) =
+    subst (AreReal (steps ++ (one ∷ []))) (sym (ap (λ (p : Pace). p.progress) pace)) (real_left (steps ++ (one ∷ [])) left s.pace.progress (real_more steps one s.pace.progress real))
+ticks_real false (phases.New hello c) steps one s e now left acts real (leaves, is, same) = still_real steps _ s.pace.progress e.pace.progress (ap (λ (x : StandingState). x.pace.progress) same) real
+ticks_real false (phases.Hello greeter bytes c) steps one s e now left acts real (leaves, is, same) = still_real steps _ s.pace.progress e.pace.progress (ap (λ (x : StandingState). x.pace.progress) same) real
+ticks_real false phases.Ended steps one s e now left acts real (leaves, is, same) = still_real steps _ s.pace.progress e.pace.progress (ap (λ (x : StandingState). x.pace.progress) same) real
+
+stands_real : (event : Event) (steps : List Happening) (s e : StandingState) (now : ℕ) (acts : List Action) → AreReal steps s.pace.progress → Stands s now event acts e → AreReal (steps ++ (at now event acts ∷ [])) e.pace.progress
 stands_real (events.Bytes bytes) steps s e now acts real (goes, pace) =
-    let steps_then : List Happening = steps ++ (At now (events.Bytes bytes) acts ∷ []) in
+    let steps_then : List Happening = steps ++ (at now (events.Bytes bytes) acts ∷ []) in
     subst (AreReal steps_then) (sym (ap (λ (p : Pace). p.progress) pace))
-    (real_noted steps_then acts s.pace.progress (last_brings steps now bytes acts) (real_more steps (At now (events.Bytes bytes) acts) s.pace.progress real))
+    (real_noted steps_then acts s.pace.progress (last_brings steps now bytes acts) (real_more steps (at now (events.Bytes bytes) acts) s.pace.progress real))
 stands_real events.Turn steps s e now acts real turns = turn_real s.session.phase steps s e now acts real turns
 stands_real (events.Copied table batch) steps s e now acts real (goes, pace) =
-    let steps_then : List Happening = steps ++ (At now (events.Copied table batch) acts ∷ []) in
+    let steps_then : List Happening = steps ++ (at now (events.Copied table batch) acts ∷ []) in
     subst (AreReal steps_then) (sym (ap (λ (p : Pace). p.progress) pace))
-    (real_copied steps_then table (last_number batch) now s.pace.progress (real_more steps (At now (events.Copied table batch) acts) s.pace.progress real))
+    (real_copied steps_then table (last_number batch) now s.pace.progress (real_more steps (at now (events.Copied table batch) acts) s.pace.progress real))
 stands_real (events.Written known) steps s e now acts real writes = writes_real s.session.phase steps s e now known acts real writes
 stands_real (events.Refused table) steps s e now acts real (goes, pace) = still_real steps _ s.pace.progress e.pace.progress (ap (λ (p : Pace). p.progress) pace) real
 stands_real events.Opened steps s e now acts real (goes, pace) = still_real steps _ s.pace.progress e.pace.progress (ap (λ (p : Pace). p.progress) pace) real
+stands_real events.Ask steps s e now acts real (goes, pace) = still_real steps _ s.pace.progress e.pace.progress (ap (λ (p : Pace). p.progress) pace) real
+stands_real events.CaughtUp steps s e now acts real (goes, pace) = still_real steps _ s.pace.progress e.pace.progress (ap (λ (p : Pace). p.progress) pace) real
+stands_real events.Tick steps s e now acts real (asked, (left, rest, ticks, is)) = ticks_real _ s.session.phase steps (at now events.Tick acts) s e now left rest real ticks
 stands_real events.End steps s e now acts real (goes, pace) = still_real steps _ s.pace.progress e.pace.progress (ap (λ (p : Pace). p.progress) pace) real
 stands_real events.ReadFault steps s e now acts real (goes, pace) = still_real steps _ s.pace.progress e.pace.progress (ap (λ (p : Pace). p.progress) pace) real
 stands_real events.WriteFault steps s e now acts real (goes, pace) = still_real steps _ s.pace.progress e.pace.progress (ap (λ (p : Pace). p.progress) pace) real
 stands_real (events.Nothing table) steps s e now acts real (goes, pace) = still_real steps _ s.pace.progress e.pace.progress (ap (λ (p : Pace). p.progress) pace) real
 stands_real (events.Settled table settled) steps s e now acts real (goes, pace) = still_real steps _ s.pace.progress e.pace.progress (ap (λ (p : Pace). p.progress) pace) real
 
-ticks_real : (silent : Bool) (phase : Phase) (steps : List Happening) (s e : StandingState) (now : ℕ) (left : List ℕ) (acts : List Action) → AreReal steps s.pace.progress → TicksIn silent phase s now left acts e → AreReal (steps ++ (Tick now left acts ∷ [])) e.pace.progress
-ticks_real true phase steps s e now left acts real (leaves, is, session, pace) = still_real steps _ s.pace.progress e.pace.progress (ap (λ (p : Pace). p.progress) pace) real
-ticks_real false (phases.Open c) steps s e now left acts real (leaves, is, session, pace) = still_real steps _ s.pace.progress e.pace.progress (ap (λ (p : Pace). p.progress) pace) real
-ticks_real false (phases.New hello c) steps s e now left acts real (leaves, is, same) = still_real steps _ s.pace.progress e.pace.progress (ap (λ (x : StandingState). x.pace.progress) same) real
-ticks_real false (phases.Hello greeter bytes c) steps s e now left acts real (leaves, is, same) = still_real steps _ s.pace.progress e.pace.progress (ap (λ (x : StandingState). x.pace.progress) same) real
-ticks_real false phases.Ended steps s e now left acts real (leaves, is, same) = still_real steps _ s.pace.progress e.pace.progress (ap (λ (x : StandingState). x.pace.progress) same) real
-
 happens_real : (one : Happening) (steps : List Happening) (s e : StandingState) → AreReal steps s.pace.progress → Happens s one e → AreReal (steps ++ (one ∷ [])) e.pace.progress
-happens_real (At now event acts) steps s e real stands = stands_real event steps s e now acts real stands
-happens_real (Tick now left acts) steps s e real (asked, ticks) = ticks_real _ s.session.phase steps s e now left acts real ticks
-happens_real (Ask now) steps s e real sent = still_real steps (Ask now) s.pace.progress e.pace.progress (ap (λ (x : StandingState). x.pace.progress) sent) real
-happens_real CatchUp steps s e real caught = still_real steps CatchUp s.pace.progress e.pace.progress (ap (λ (x : StandingState). x.pace.progress) caught) real
+happens_real one steps s e real happens = stands_real one.event steps s e one.now one.acts real happens
 
 -- ---- runs
 
@@ -368,6 +421,27 @@ run_real before (one ∷ steps) s e real (mid, happens, lasts) =
 begun_real : (roster : List Definition) (s : StandingState) → BeginsToStay roster s → AreReal [] s.pace.progress
 begun_real roster s (begun, now, begins, is) = subst (λ (x : StandingState). AreReal [] x.pace.progress) (sym is) (real_begun now begun.known.roster)
 
-pub acks_were_received : (roster : List Definition) (begun s e : StandingState) (steps : List Happening) (now : ℕ) (event : Event) (acts : List Action) (table number : ℕ) → BeginsToStay roster begun → Lasts begun steps s → Stands s now event acts e → acknowledges table number acts ≡ true → was_acknowledged table number (steps ++ (At now event acts ∷ [])) ≡ true
-acks_were_received roster begun s e steps now event acts table number begins lasts stands is =
-    brought event steps s e now acts (run_real [] steps begun s (begun_real roster begun begins) lasts) stands table number is
+pub acks_were_received : (roster : List Definition) (begun s e : StandingState) (steps : List Happening) (one : Happening) (table number : ℕ) → BeginsToStay roster begun → Lasts begun steps s → Happens s one e → acknowledges table number one.acts ≡ true → was_acknowledged table number (steps ++ (one ∷ [])) ≡ true
+acks_were_received roster begun s e steps one table number begins lasts happens is =
+    brought one.event steps s e one.now one.acts (run_real [] steps begun s (begun_real roster begun begins) lasts) happens table number is
+
+-- ---- a plain session
+
+goes_brought : (event : Event) (steps : List Happening) (s e : SessionState) (now : ℕ) (acts : List Action) → Goes s event acts e → IsBrought steps now event acts
+goes_brought (events.Bytes bytes) steps s e now acts goes = λ table number is. last_brings steps now bytes acts table number is
+goes_brought (events.Written known) steps s e now acts goes = brought_none steps now (events.Written known) acts (written_none s.phase s known acts e goes)
+goes_brought events.Opened steps s e now acts goes = brought_none steps now events.Opened acts (none_in s.phase s events.Opened acts e tt goes)
+goes_brought events.End steps s e now acts goes = brought_none steps now events.End acts (none_in s.phase s events.End acts e tt goes)
+goes_brought events.ReadFault steps s e now acts goes = brought_none steps now events.ReadFault acts (none_in s.phase s events.ReadFault acts e tt goes)
+goes_brought events.Turn steps s e now acts goes = brought_none steps now events.Turn acts (none_in s.phase s events.Turn acts e tt goes)
+goes_brought events.Tick steps s e now acts goes = brought_none steps now events.Tick acts (none_in s.phase s events.Tick acts e tt goes)
+goes_brought events.Ask steps s e now acts goes = brought_none steps now events.Ask acts (none_in s.phase s events.Ask acts e tt goes)
+goes_brought events.CaughtUp steps s e now acts goes = brought_none steps now events.CaughtUp acts (none_in s.phase s events.CaughtUp acts e tt goes)
+goes_brought (events.Copied table batch) steps s e now acts goes = brought_none steps now (events.Copied table batch) acts (none_in s.phase s (events.Copied table batch) acts e tt goes)
+goes_brought (events.Nothing table) steps s e now acts goes = brought_none steps now (events.Nothing table) acts (none_in s.phase s (events.Nothing table) acts e tt goes)
+goes_brought events.WriteFault steps s e now acts goes = brought_none steps now events.WriteFault acts (none_in s.phase s events.WriteFault acts e tt goes)
+goes_brought (events.Settled table settled) steps s e now acts goes = brought_none steps now (events.Settled table settled) acts (none_in s.phase s (events.Settled table settled) acts e tt goes)
+goes_brought (events.Refused table) steps s e now acts goes = brought_none steps now (events.Refused table) acts (none_in s.phase s (events.Refused table) acts e tt goes)
+
+pub plain_acks_received : (s e : SessionState) (steps : List Happening) (one : Happening) (table number : ℕ) → Goes s one.event one.acts e → acknowledges table number one.acts ≡ true → was_acknowledged table number (steps ++ (one ∷ [])) ≡ true
+plain_acks_received s e steps one table number goes is = goes_brought one.event steps s e one.now one.acts goes table number is

@@ -35,16 +35,19 @@ use Rattle.session_core.specs.Phases.{Phase}
 use Rattle.session_core.specs.Phases as phases
 use Rattle.session_core.specs.Shares.{any_out, all_quiet, is_out, quiet_set, unquieted}
 use Rattle.session_core.specs.Actions.{sends_control, status_text, reopens}
-use Rattle.session_core.specs.Courses.{Course, course_fed, teaching_anew, acknowledged, ack_received, ReceivesAll, acks_given, table_to_ask, none_due}
+use Rattle.session_core.specs.Courses.{Course, course_fed, teaching_anew, acknowledged, ack_received, ReceivesAll, acks_given, table_to_ask, none_due, kind_of}
 use Rattle.session_core.specs.Sessions.{SessionState, is_asked, Concludes, ReceivesBytes, first_word, IsWelcomed, Connects, Accepts, Greets, GoesIn, GoesNew, GoesHello, GoesOpen, Turns, HasNothing, FinishesResync, StartsPendingResync, Settles, opening, speaking}
-use Rattle.session_core.specs.Runs.{ends_resync, IsLeft, HasNothingLeft, HasNothingOut}
+use Rattle.session_core.specs.Runs.{copies, reopened, is_end, ends_resync, IsLeft, HasNothingLeft, HasNothingOut}
 use Rattle.session_core.specs.Paces.{inferred, is_ahead}
-use Rattle.session_core.specs.Standing.{StandingState, changed, finished_if, begun_resync, Does, task_at, TakesTurn, Writes, answer_of_refusal, Stands, without_tables, leaving, heartbeats, TicksIn, caught_up_in}
-use Rattle.session_core.specs.StandingRuns.{Happening, At, Tick, Ask, CatchUp, Happens, Lasts, BeginsToStay, acts_of, handed, leaves, was_left}
+use Rattle.session_core.specs.Standing.{StandingState, finished_if, begun_resync, Does, task_at, TakesTurn, Writes, answer_of_refusal, Stands, without_tables, leaving, heartbeats, TicksIn, word_of, reopening}
+use Rattle.session_core.specs.Happenings.{Happening, handed, is_tick, reopened_in, leaves, was_left}
+use Rattle.session_core.proofs.MachineRuns.{Happens, Lasts, BeginsToStay}
+use Rattle.session_core.proofs.TickGives.{after_reopening, is_reopened, left_reopened, reopens_left, tick_or_not}
+use Rattle.session_core.proofs.OnlyTurnsCopy.{copied_ticks}
 use Rattle.session_core.proofs.BegunToStay.{begun_in}
 use Rattle.session_core.proofs.ShareLemmas.{shares_in, ids_of, never, none_out, each_quiet, shares_begin}
 use Rattle.session_core.proofs.EndLemmas.{is_plain, plain_append, plain_all, plain_acks, plain_ready, plain_status, plain_reopens, plain_word}
-use Rattle.session_core.proofs.RunLemmas.{AreFlags, no_copies, IsDueSound, IsSound, IsCalm, IsKeptIn, due_sound, due_rest, calm_sound, flags_more, calm_more, anew_flags}
+use Rattle.session_core.proofs.RunLemmas.{AreFlags, no_copies, IsDueSound, IsSound, IsCalm, IsKeptIn, due_sound, due_rest, calm_sound, flags_more, calm_more, anew_flags, left_more}
 use Rattle.session_core.proofs.StepLemmas.{with_step, goes_kept, quieted}
 
 -- ---- answers
@@ -143,20 +146,36 @@ kept_turn ids steps (phases.New hello c) s e now acts stands kept (goes, paces) 
 kept_turn ids steps (phases.Hello greeter bytes c) s e now acts stands kept (goes, paces) = goes_kept true ids steps s.session.phase s.session events.Turn acts e.session kept goes
 kept_turn ids steps phases.Ended s e now acts stands kept (goes, paces) = goes_kept true ids steps s.session.phase s.session events.Turn acts e.session kept goes
 
+-- word that this node is up to date
+kept_word : (ids : List ℕ) (steps : List (Event × List Action)) (phase : Phase) (s : SessionState) (acts : List Action) (e : SessionState) → IsKeptIn true ids steps phase → GoesIn phase s events.Tick acts e → IsKeptIn true ids (with_step steps events.CaughtUp acts) e.phase
+kept_word ids steps (phases.Open c) s acts e sound (due, (is, ends)) =
+    kept_at ids (with_step steps events.CaughtUp acts) e (phases.Open c) (ap (λ (x : SessionState). x.phase) ends)
+    (calm_sound true ids (with_step steps events.CaughtUp acts) c (calm_more true ids steps c events.CaughtUp acts (λ id. subst (IsLeft id) (sym is) (refl, refl)) (calm_idle ids steps c due sound)))
+kept_word ids steps (phases.New hello c) s acts e fresh (is, ends) = kept_at ids (with_step steps events.CaughtUp acts) e (phases.New hello c) (ap (λ (x : SessionState). x.phase) ends) fresh
+kept_word ids steps (phases.Hello greeter bytes c) s acts e fresh (is, ends) = kept_at ids (with_step steps events.CaughtUp acts) e (phases.Hello greeter bytes c) (ap (λ (x : SessionState). x.phase) ends) fresh
+kept_word ids steps phases.Ended s acts e kept goes = absurd goes
+
+word_kept : (ids : List ℕ) (steps : List (Event × List Action)) (b : Bool) (s : SessionState) (acts : List Action) (e : SessionState) → IsKeptIn true ids steps s.phase → GoesIn s.phase s (word_of b) acts e → IsKeptIn true ids (with_step steps events.CaughtUp acts) e.phase
+word_kept ids steps true s acts e kept goes = kept_word ids steps s.phase s acts e kept goes
+word_kept ids steps false s acts e kept goes = goes_kept true ids steps s.phase s events.CaughtUp acts e kept goes
+
 -- ---- each event preserves what a run preserves
 
-kept_stands : (ids : List ℕ) (steps : List (Event × List Action)) (event : Event) (s e : StandingState) (now : ℕ) (acts : List Action) → IsKeptIn true ids steps s.session.phase → Stands s now event acts e → IsKeptIn true ids (with_step steps event acts) e.session.phase
-kept_stands ids steps (events.Bytes bytes) s e now acts kept (goes, paces) = goes_kept true ids steps s.session.phase s.session (events.Bytes bytes) acts e.session kept goes
-kept_stands ids steps events.Turn s e now acts kept turns = kept_turn ids steps s.session.phase s e now acts refl kept turns
-kept_stands ids steps (events.Copied table batch) s e now acts kept (goes, paces) = goes_kept true ids steps s.session.phase s.session (events.Copied table batch) acts e.session kept goes
-kept_stands ids steps (events.Written known) s e now acts kept writes = kept_writes ids steps s.session.phase s e now known acts kept writes
-kept_stands ids steps (events.Refused table) s e now acts kept (goes, paces) = kept_refused ids steps (is_ahead table s.pace.progress) s.session table acts e.session kept goes
-kept_stands ids steps events.Opened s e now acts kept (goes, paces) = goes_kept true ids steps s.session.phase s.session events.Opened acts e.session kept goes
-kept_stands ids steps events.End s e now acts kept (goes, paces) = goes_kept true ids steps s.session.phase s.session events.End acts e.session kept goes
-kept_stands ids steps events.ReadFault s e now acts kept (goes, paces) = goes_kept true ids steps s.session.phase s.session events.ReadFault acts e.session kept goes
-kept_stands ids steps events.WriteFault s e now acts kept (goes, paces) = goes_kept true ids steps s.session.phase s.session events.WriteFault acts e.session kept goes
-kept_stands ids steps (events.Nothing table) s e now acts kept (goes, paces) = goes_kept true ids steps s.session.phase s.session (events.Nothing table) acts e.session kept goes
-kept_stands ids steps (events.Settled table settled) s e now acts kept (goes, paces) = goes_kept true ids steps s.session.phase s.session (events.Settled table settled) acts e.session kept goes
+kept_stands : (ids : List ℕ) (steps : List (Event × List Action)) (event : Event) (s e : StandingState) (now : ℕ) (acts : List Action) → is_tick event ≡ false → IsKeptIn true ids steps s.session.phase → Stands s now event acts e → IsKeptIn true ids (with_step steps event acts) e.session.phase
+kept_stands ids steps (events.Bytes bytes) s e now acts other kept (goes, paces) = goes_kept true ids steps s.session.phase s.session (events.Bytes bytes) acts e.session kept goes
+kept_stands ids steps events.Turn s e now acts other kept turns = kept_turn ids steps s.session.phase s e now acts refl kept turns
+kept_stands ids steps (events.Copied table batch) s e now acts other kept (goes, paces) = goes_kept true ids steps s.session.phase s.session (events.Copied table batch) acts e.session kept goes
+kept_stands ids steps (events.Written known) s e now acts other kept writes = kept_writes ids steps s.session.phase s e now known acts kept writes
+kept_stands ids steps (events.Refused table) s e now acts other kept (goes, paces) = kept_refused ids steps (is_ahead table s.pace.progress) s.session table acts e.session kept goes
+kept_stands ids steps events.Opened s e now acts other kept (goes, paces) = goes_kept true ids steps s.session.phase s.session events.Opened acts e.session kept goes
+kept_stands ids steps events.Ask s e now acts other kept (goes, paces) = goes_kept true ids steps s.session.phase s.session events.Ask acts e.session kept goes
+kept_stands ids steps events.CaughtUp s e now acts other kept (goes, paces) = word_kept ids steps s.pace.left s.session acts e.session kept goes
+kept_stands ids steps events.Tick s e now acts other kept stands = absurd (false≢true (sym other))
+kept_stands ids steps events.End s e now acts other kept (goes, paces) = goes_kept true ids steps s.session.phase s.session events.End acts e.session kept goes
+kept_stands ids steps events.ReadFault s e now acts other kept (goes, paces) = goes_kept true ids steps s.session.phase s.session events.ReadFault acts e.session kept goes
+kept_stands ids steps events.WriteFault s e now acts other kept (goes, paces) = goes_kept true ids steps s.session.phase s.session events.WriteFault acts e.session kept goes
+kept_stands ids steps (events.Nothing table) s e now acts other kept (goes, paces) = goes_kept true ids steps s.session.phase s.session (events.Nothing table) acts e.session kept goes
+kept_stands ids steps (events.Settled table settled) s e now acts other kept (goes, paces) = goes_kept true ids steps s.session.phase s.session (events.Settled table settled) acts e.session kept goes
 
 -- ---- ticks
 
@@ -167,51 +186,84 @@ stays_in left id = not (list_any (λ table. table == id) left)
 abbrev pub staying : List ℕ → List Definition → List Definition
 staying left ds = filter (λ d. stays_in left d.id) ds
 
-share_staying : (b : Bool) (s : Share) (ss ts : List Share) → ss ≡ ts → cond b (s ∷ ss) ss ≡ cond b (s ∷ ts) ts
-share_staying b s ss ts same = ap (λ (xs : List Share). cond b (s ∷ xs) xs) same
+share_staying : (b : Bool) (id : ℕ) (out quiet : Bool) (ss ts : List Share) → ss ≡ ts → cond b (record { table = id; out = out; quiet = quiet } ∷ ss) ss ≡ cond b (record { table = id; out = out; quiet = b && quiet } ∷ ts) ts
+share_staying true id out quiet ss ts same = ap (λ (xs : List Share). record { table = id; out = out; quiet = quiet } ∷ xs) same
+share_staying false id out quiet ss ts same = same
 
 staying_cond : (b : Bool) (d : Definition) (ds : List Definition) (out quiet : ℕ → Bool) → shares_in (ids_of (cond b (d ∷ ds) ds)) out quiet ≡ cond b (record { table = d.id; out = out d.id; quiet = quiet d.id } ∷ shares_in (ids_of ds) out quiet) (shares_in (ids_of ds) out quiet)
 staying_cond true d ds out quiet = refl
 staying_cond false d ds out quiet = refl
 
-shares_staying : (left : List ℕ) (ds : List Definition) (out quiet : ℕ → Bool) → filter (λ s. stays_in left s.table) (shares_in (ids_of ds) out quiet) ≡ shares_in (ids_of (staying left ds)) out quiet
+-- the tables that stay and are quiet
+abbrev still_quiet : List ℕ → (ℕ → Bool) → ℕ → Bool
+still_quiet left quiet id = stays_in left id && quiet id
+
+shares_staying : (left : List ℕ) (ds : List Definition) (out quiet : ℕ → Bool) → filter (λ s. stays_in left s.table) (shares_in (ids_of ds) out quiet) ≡ shares_in (ids_of (staying left ds)) out (still_quiet left quiet)
 shares_staying left [] out quiet = refl
 shares_staying left (d ∷ ds) out quiet =
-    share_staying (stays_in left d.id) _ _ _ (shares_staying left ds out quiet) ∙ sym (staying_cond (stays_in left d.id) d (staying left ds) out quiet)
+    share_staying (stays_in left d.id) d.id (out d.id) (quiet d.id) _ _ (shares_staying left ds out quiet) ∙ sym (staying_cond (stays_in left d.id) d (staying left ds) out (still_quiet left quiet))
+
+both_so : (a b : Bool) → (a && b) ≡ true → (a ≡ true) × (b ≡ true)
+both_so true b so = (refl, so)
+both_so false b so = absurd (false≢true so)
+
+-- what a tick that leaves these tables asks for neither copies from another one nor reopens it
+abbrev pub LeavesOnly : List ℕ → List Action → Type 0
+LeavesOnly left acts = (id : ℕ) → stays_in left id ≡ true → IsLeft id acts
 
 -- what a tick leaves of the flags
-staying_flags : (left : List ℕ) (ds : List Definition) (steps : List (Event × List Action)) (c : Course) (out quiet : ℕ → Bool) → AreFlags true (ids_of ds) steps c out quiet → AreFlags true (ids_of (staying left ds)) steps (without_tables left c) out quiet
-staying_flags left ds steps c out quiet (shares, rest, stays) = (ap (filter (λ s. stays_in left s.table)) shares ∙ shares_staying left ds out quiet, rest, stays)
+staying_flags : (left : List ℕ) (ds : List Definition) (steps : List (Event × List Action)) (c : Course) (out quiet : ℕ → Bool) (acts : List Action) → LeavesOnly left acts → AreFlags true (ids_of ds) steps c out quiet → AreFlags true (ids_of (staying left ds)) (with_step steps events.Tick acts) (without_tables left c) out (still_quiet left quiet)
+staying_flags left ds steps c out quiet acts only (shares, rest, stays) = (
+  ap (filter (λ s. stays_in left s.table)) shares ∙ shares_staying left ds out quiet,
+  λ so id quiets.
+      let both = both_so (stays_in left id) (quiet id) quiets in
+      ((rest so id both.1).0, left_more (kind_of true true) steps id events.Tick acts (rest so id both.1).1 (only id both.0)),
+  stays,
+)
 
 staying_all : (ds : List Definition) → staying [] ds ≡ ds
 staying_all [] = refl
 staying_all (d ∷ ds) = ap (λ (xs : List Definition). d ∷ xs) (staying_all ds)
 
-sound_leaving : (left : List ℕ) (ds : List Definition) (steps : List (Event × List Action)) (c : Course) → IsCalm true (ids_of ds) steps c → IsSound true (ids_of (staying left ds)) steps (leaving left c).1
-sound_leaving [] ds steps c calm = subst (λ (xs : List Definition). IsSound true (ids_of xs) steps c) (sym (staying_all ds)) (calm_sound true (ids_of ds) steps c calm)
-sound_leaving (table ∷ tables) ds steps c (out, quiet, flags, none) =
-    sound_after (ids_of (staying (table ∷ tables) ds)) steps _ (without_tables (table ∷ tables) c) out quiet (staying_flags (table ∷ tables) ds steps c out quiet flags) none
+sound_leaving : (left : List ℕ) (ds : List Definition) (steps : List (Event × List Action)) (c : Course) (acts : List Action) → LeavesOnly left acts → IsCalm true (ids_of ds) steps c → IsSound true (ids_of (staying left ds)) (with_step steps events.Tick acts) (leaving left c).1
+sound_leaving [] ds steps c acts only calm =
+    subst (λ (xs : List Definition). IsSound true (ids_of xs) (with_step steps events.Tick acts) c) (sym (staying_all ds))
+    (calm_sound true (ids_of ds) (with_step steps events.Tick acts) c (calm_more true (ids_of ds) steps c events.Tick acts (λ id. only id refl) calm))
+sound_leaving (table ∷ tables) ds steps c acts only (out, quiet, flags, none) =
+    sound_after (ids_of (staying (table ∷ tables) ds)) (with_step steps events.Tick acts) _ (without_tables (table ∷ tables) c) out (still_quiet (table ∷ tables) quiet) (staying_flags (table ∷ tables) ds steps c out quiet acts only flags) none
 
 none_calm : (due : List Due) → none_due due ≡ true → no_copies due ≡ true
 none_calm [] none = refl
 none_calm (d ∷ ds) none = absurd (false≢true none)
 
-kept_still : (ds : List Definition) (steps : List (Event × List Action)) (left : List ℕ) (s e : StandingState) → left ≡ [] → e ≡ s → IsKeptIn true (ids_of ds) steps s.session.phase → IsKeptIn true (ids_of (staying left ds)) steps e.session.phase
-kept_still ds steps left s e none same kept =
+kept_still : (ds : List Definition) (steps : List (Event × List Action)) (left : List ℕ) (phase : Phase) (s e : StandingState) → left ≡ [] → e ≡ s → s.session.phase ≡ phase → IsKeptIn true (ids_of ds) steps phase → IsKeptIn true (ids_of (staying left ds)) steps e.session.phase
+kept_still ds steps left phase s e none same stands kept =
     subst (λ (xs : List ℕ). IsKeptIn true (ids_of (staying xs ds)) steps e.session.phase) (sym none)
     (subst (λ (xs : List Definition). IsKeptIn true (ids_of xs) steps e.session.phase) (sym (staying_all ds))
-    (subst (λ (x : StandingState). IsKeptIn true (ids_of ds) steps x.session.phase) (sym same) kept))
+    (kept_at (ids_of ds) steps e.session phase (ap (λ (x : StandingState). x.session.phase) same ∙ stands) kept))
 
-kept_ticks : (ds : List Definition) (steps : List (Event × List Action)) (silent : Bool) (phase : Phase) (s e : StandingState) (now : ℕ) (left : List ℕ) (acts : List Action) → s.session.phase ≡ phase → is_asked phase events.Turn ≡ true → IsKeptIn true (ids_of ds) steps s.session.phase → TicksIn silent phase s now left acts e → IsKeptIn true (ids_of (staying left ds)) steps e.session.phase
-kept_ticks ds steps true phase s e now left acts stands asked kept (leaves, is, session, paces) =
-    kept_at (ids_of (staying left ds)) steps e.session phases.Ended (ap (λ (x : SessionState). x.phase) session) tt
-kept_ticks ds steps false (phases.Open c) s e now left acts stands asked kept (leaves, is, session, paces) =
+kept_ticks : (ds : List Definition) (steps : List (Event × List Action)) (silent : Bool) (phase : Phase) (s e : StandingState) (now : ℕ) (left : List ℕ) (rest acts : List Action) → s.session.phase ≡ phase → is_asked phase events.Tick ≡ true → LeavesOnly left acts → IsKeptIn true (ids_of ds) steps s.session.phase → TicksIn silent phase s now left rest e → IsKeptIn true (ids_of (staying left ds)) (with_step steps events.Tick acts) e.session.phase
+kept_ticks ds steps true phase s e now left rest acts stands asked only kept (leaves, is, session, paces) =
+    kept_at (ids_of (staying left ds)) (with_step steps events.Tick acts) e.session phases.Ended (ap (λ (x : SessionState). x.phase) session) tt
+kept_ticks ds steps false (phases.Open c) s e now left rest acts stands asked only kept (leaves, is, session, paces) =
     let sound : IsSound true (ids_of ds) steps c = subst (IsKeptIn true (ids_of ds) steps) stands kept in
-    kept_at (ids_of (staying left ds)) steps e.session (phases.Open (leaving left c).1) (ap (λ (x : SessionState). x.phase) session)
-    (sound_leaving left ds steps c (sound.0, sound.1, sound.2, none_calm c.due asked))
-kept_ticks ds steps false (phases.New hello c) s e now left acts stands asked kept (leaves, is, same) = kept_still ds steps left s e leaves same kept
-kept_ticks ds steps false (phases.Hello greeter bytes c) s e now left acts stands asked kept (leaves, is, same) = kept_still ds steps left s e leaves same kept
-kept_ticks ds steps false phases.Ended s e now left acts stands asked kept (leaves, is, same) = kept_still ds steps left s e leaves same kept
+    kept_at (ids_of (staying left ds)) (with_step steps events.Tick acts) e.session (phases.Open (leaving left c).1) (ap (λ (x : SessionState). x.phase) session)
+    (sound_leaving left ds steps c acts only (sound.0, sound.1, sound.2, none_calm c.due asked))
+kept_ticks ds steps false (phases.New hello c) s e now left rest acts stands asked only kept (leaves, is, same) =
+    kept_still ds (with_step steps events.Tick acts) left (phases.New hello c) s e leaves same stands (subst (IsKeptIn true (ids_of ds) steps) stands kept)
+kept_ticks ds steps false (phases.Hello greeter bytes c) s e now left rest acts stands asked only kept (leaves, is, same) =
+    kept_still ds (with_step steps events.Tick acts) left (phases.Hello greeter bytes c) s e leaves same stands (subst (IsKeptIn true (ids_of ds) steps) stands kept)
+kept_ticks ds steps false phases.Ended s e now left rest acts stands asked only kept (leaves, is, same) = kept_still ds (with_step steps events.Tick acts) left phases.Ended s e leaves same stands tt
+
+not_true : (b : Bool) → not b ≡ true → b ≡ false
+not_true true so = absurd (false≢true so)
+not_true false so = refl
+
+tick_leaves_only : (silent : Bool) (phase : Phase) (s e : StandingState) (now : ℕ) (left : List ℕ) (rest acts : List Action) → TicksIn silent phase s now left rest e → acts ≡ reopening left ++ rest → LeavesOnly left acts
+tick_leaves_only silent phase s e now left rest acts ticks is = λ id stays. (
+  ap (copies id) is ∙ copied_ticks id silent phase s e now left rest ticks,
+  left_reopened id silent phase s e now left rest acts ticks is ∙ not_true (list_any (λ table. table == id) left) stays,
+)
 
 -- ---- events that end no resync
 
@@ -255,6 +307,9 @@ endless_greets s (greeters.Accepts own peers) bytes c acts e goes = endless_acce
 endless_new : (s : SessionState) (hello : Hello) (c : Course) (event : Event) (acts : List Action) (e : SessionState) → GoesNew s hello c event acts e → ends_resync acts ≡ false
 endless_new s hello c events.Opened acts e (is, then) = ap ends_resync is
 endless_new s hello c events.Turn acts e (is, then) = ap ends_resync is
+endless_new s hello c events.Tick acts e (is, then) = ap ends_resync is
+endless_new s hello c events.Ask acts e (is, then) = ap ends_resync is
+endless_new s hello c events.CaughtUp acts e (is, then) = ap ends_resync is
 endless_new s hello c events.End acts e (is, then) = ap ends_resync is
 endless_new s hello c events.ReadFault acts e (is, then) = ap ends_resync is
 endless_new s hello c events.WriteFault acts e (is, then) = ap ends_resync is
@@ -268,6 +323,9 @@ endless_new s hello c (events.Refused table) acts e goes = absurd goes
 endless_hello : (s : SessionState) (greeter : Greeter) (bytes : List ℕ) (c : Course) (event : Event) (acts : List Action) (e : SessionState) → GoesHello s greeter bytes c event acts e → ends_resync acts ≡ false
 endless_hello s greeter bytes c (events.Bytes piece) acts e goes = endless_greets s greeter (bytes ++ piece) c acts e goes
 endless_hello s greeter bytes c events.Turn acts e (is, then) = ap ends_resync is
+endless_hello s greeter bytes c events.Tick acts e (is, then) = ap ends_resync is
+endless_hello s greeter bytes c events.Ask acts e (is, then) = ap ends_resync is
+endless_hello s greeter bytes c events.CaughtUp acts e (is, then) = ap ends_resync is
 endless_hello s greeter bytes c events.End acts e (is, then) = ap ends_resync is
 endless_hello s greeter bytes c events.ReadFault acts e (is, then) = ap ends_resync is
 endless_hello s greeter bytes c events.WriteFault acts e (is, then) = ap ends_resync is
@@ -293,6 +351,9 @@ endless_settles settles.Older s c table acts e (is, then) = ap ends_resync is
 
 endless_open : (s : SessionState) (c : Course) (event : Event) (acts : List Action) (e : SessionState) → IsEndless event → GoesOpen s c event acts e → ends_resync acts ≡ false
 endless_open s c events.Turn acts e other (due, turns) = endless_turns (table_to_ask c) s c acts e turns
+endless_open s c events.Tick acts e other (due, (is, then)) = ap ends_resync is
+endless_open s c events.Ask acts e other (due, (is, then)) = ap ends_resync is
+endless_open s c events.CaughtUp acts e other (due, (is, then)) = ap ends_resync is
 endless_open s c (events.Bytes bytes) acts e other (due, receives) = endless_receives s (course_fed c bytes) [] acts e (refl, refl) receives
 endless_open s c (events.Copied table batch) acts e other (mid, answered, (is, then)) = ap ends_resync is
 endless_open s c (events.Nothing table) acts e other goes = absurd other
@@ -313,6 +374,10 @@ endless_in phases.Ended s event acts e other goes = absurd goes
 pub endless_refusal : (b : Bool) (table : ℕ) → IsEndless (answer_of_refusal b table)
 endless_refusal true table = tt
 endless_refusal false table = tt
+
+pub endless_word : (b : Bool) → IsEndless (word_of b)
+endless_word true = tt
+endless_word false = tt
 
 -- ---- the step that ends a resync
 
@@ -380,18 +445,21 @@ end_writes ds steps (phases.New hello c) s e now known acts writes comes = absur
 end_writes ds steps (phases.Hello greeter bytes c) s e now known acts writes comes = absurd writes
 end_writes ds steps phases.Ended s e now known acts writes comes = absurd writes
 
-end_stands : (ds : List Definition) (steps : List (Event × List Action)) (event : Event) (s e : StandingState) (now : ℕ) (acts : List Action) → IsKeptIn true (ids_of ds) steps s.session.phase → Stands s now event acts e → ends_resync acts ≡ true → IsTaught ds (with_step steps event acts) e.session
-end_stands ds steps (events.Bytes bytes) s e now acts kept (goes, paces) comes = never_ends acts (endless_in s.session.phase s.session (events.Bytes bytes) acts e.session tt goes) comes
-end_stands ds steps events.Turn s e now acts kept turns comes = end_turn ds steps s.session.phase s e now acts refl kept turns comes
-end_stands ds steps (events.Nothing table) s e now acts kept (goes, paces) comes = end_answer ds steps s.session.phase s.session table acts e.session kept goes comes
-end_stands ds steps (events.Written known) s e now acts kept writes comes = end_writes ds _ s.session.phase s e now known acts writes comes
-end_stands ds steps (events.Refused table) s e now acts kept (goes, paces) comes = never_ends acts (endless_in s.session.phase s.session _ acts e.session (endless_refusal (is_ahead table s.pace.progress) table) goes) comes
-end_stands ds steps (events.Copied table batch) s e now acts kept (goes, paces) comes = never_ends acts (endless_in s.session.phase s.session (events.Copied table batch) acts e.session tt goes) comes
-end_stands ds steps events.Opened s e now acts kept (goes, paces) comes = never_ends acts (endless_in s.session.phase s.session events.Opened acts e.session tt goes) comes
-end_stands ds steps events.End s e now acts kept (goes, paces) comes = never_ends acts (endless_in s.session.phase s.session events.End acts e.session tt goes) comes
-end_stands ds steps events.ReadFault s e now acts kept (goes, paces) comes = never_ends acts (endless_in s.session.phase s.session events.ReadFault acts e.session tt goes) comes
-end_stands ds steps events.WriteFault s e now acts kept (goes, paces) comes = never_ends acts (endless_in s.session.phase s.session events.WriteFault acts e.session tt goes) comes
-end_stands ds steps (events.Settled table settled) s e now acts kept (goes, paces) comes = never_ends acts (endless_in s.session.phase s.session (events.Settled table settled) acts e.session tt goes) comes
+end_stands : (ds : List Definition) (steps : List (Event × List Action)) (event : Event) (s e : StandingState) (now : ℕ) (acts : List Action) → is_tick event ≡ false → IsKeptIn true (ids_of ds) steps s.session.phase → Stands s now event acts e → ends_resync acts ≡ true → IsTaught ds (with_step steps event acts) e.session
+end_stands ds steps (events.Bytes bytes) s e now acts other kept (goes, paces) comes = never_ends acts (endless_in s.session.phase s.session (events.Bytes bytes) acts e.session tt goes) comes
+end_stands ds steps events.Turn s e now acts other kept turns comes = end_turn ds steps s.session.phase s e now acts refl kept turns comes
+end_stands ds steps (events.Nothing table) s e now acts other kept (goes, paces) comes = end_answer ds steps s.session.phase s.session table acts e.session kept goes comes
+end_stands ds steps (events.Written known) s e now acts other kept writes comes = end_writes ds _ s.session.phase s e now known acts writes comes
+end_stands ds steps (events.Refused table) s e now acts other kept (goes, paces) comes = never_ends acts (endless_in s.session.phase s.session _ acts e.session (endless_refusal (is_ahead table s.pace.progress) table) goes) comes
+end_stands ds steps (events.Copied table batch) s e now acts other kept (goes, paces) comes = never_ends acts (endless_in s.session.phase s.session (events.Copied table batch) acts e.session tt goes) comes
+end_stands ds steps events.Opened s e now acts other kept (goes, paces) comes = never_ends acts (endless_in s.session.phase s.session events.Opened acts e.session tt goes) comes
+end_stands ds steps events.Ask s e now acts other kept (goes, paces) comes = never_ends acts (endless_in s.session.phase s.session events.Ask acts e.session tt goes) comes
+end_stands ds steps events.CaughtUp s e now acts other kept (goes, paces) comes = never_ends acts (endless_in s.session.phase s.session _ acts e.session (endless_word s.pace.left) goes) comes
+end_stands ds steps events.Tick s e now acts other kept stands comes = absurd (false≢true (sym other))
+end_stands ds steps events.End s e now acts other kept (goes, paces) comes = never_ends acts (endless_in s.session.phase s.session events.End acts e.session tt goes) comes
+end_stands ds steps events.ReadFault s e now acts other kept (goes, paces) comes = never_ends acts (endless_in s.session.phase s.session events.ReadFault acts e.session tt goes) comes
+end_stands ds steps events.WriteFault s e now acts other kept (goes, paces) comes = never_ends acts (endless_in s.session.phase s.session events.WriteFault acts e.session tt goes) comes
+end_stands ds steps (events.Settled table settled) s e now acts other kept (goes, paces) comes = never_ends acts (endless_in s.session.phase s.session (events.Settled table settled) acts e.session tt goes) comes
 
 -- ---- the tick that ends a resync
 
@@ -406,78 +474,84 @@ end_leaves ds steps true beats c acts e out quiet flags all is stands comes =
     let taught = quiet_taught ds steps c out quiet flags so.0 so.1 in
     ((record c { teaching = false }, stands, taught.0), taught.1)
 
-end_leaving : (left : List ℕ) (ds : List Definition) (steps : List (Event × List Action)) (beats : Bool) (c : Course) (acts : List Action) (e : SessionState) → IsSound true (ids_of ds) steps c → acts ≡ (leaving left c).0 ++ heartbeats beats → e.phase ≡ phases.Open (leaving left c).1 → ends_resync acts ≡ true → IsTaught (staying left ds) steps e
-end_leaving [] ds steps beats c acts e sound is stands comes = never_ends acts (ap ends_resync is ∙ end_beats beats) comes
-end_leaving (table ∷ tables) ds steps beats c acts e (out, quiet, flags, sound) is stands comes =
-    end_leaves (staying (table ∷ tables) ds) steps _ beats (without_tables (table ∷ tables) c) acts e out quiet (staying_flags (table ∷ tables) ds steps c out quiet flags) refl is stands comes
+end_leaving : (left : List ℕ) (ds : List Definition) (steps : List (Event × List Action)) (beats : Bool) (c : Course) (rest acts : List Action) (e : SessionState) → LeavesOnly left acts → IsSound true (ids_of ds) steps c → rest ≡ (leaving left c).0 ++ heartbeats beats → e.phase ≡ phases.Open (leaving left c).1 → ends_resync rest ≡ true → IsTaught (staying left ds) (with_step steps events.Tick acts) e
+end_leaving [] ds steps beats c rest acts e only sound is stands comes = never_ends rest (ap ends_resync is ∙ end_beats beats) comes
+end_leaving (table ∷ tables) ds steps beats c rest acts e only (out, quiet, flags, sound) is stands comes =
+    end_leaves (staying (table ∷ tables) ds) (with_step steps events.Tick acts) _ beats (without_tables (table ∷ tables) c) rest e out (still_quiet (table ∷ tables) quiet) (staying_flags (table ∷ tables) ds steps c out quiet acts only flags) refl is stands comes
 
-end_ticks : (ds : List Definition) (steps : List (Event × List Action)) (silent : Bool) (phase : Phase) (s e : StandingState) (now : ℕ) (left : List ℕ) (acts : List Action) → s.session.phase ≡ phase → IsKeptIn true (ids_of ds) steps s.session.phase → TicksIn silent phase s now left acts e → ends_resync acts ≡ true → IsTaught (staying left ds) steps e.session
-end_ticks ds steps true phase s e now left acts stands kept (leaves, is, session, paces) comes = never_ends acts (ap ends_resync is) comes
-end_ticks ds steps false (phases.Open c) s e now left acts stands kept (leaves, is, session, paces) comes =
-    end_leaving left ds steps _ c acts e.session (subst (IsKeptIn true (ids_of ds) steps) stands kept) is (ap (λ (x : SessionState). x.phase) session) comes
-end_ticks ds steps false (phases.New hello c) s e now left acts stands kept (leaves, is, same) comes = never_ends acts (ap ends_resync is) comes
-end_ticks ds steps false (phases.Hello greeter bytes c) s e now left acts stands kept (leaves, is, same) comes = never_ends acts (ap ends_resync is) comes
-end_ticks ds steps false phases.Ended s e now left acts stands kept (leaves, is, same) comes = never_ends acts (ap ends_resync is) comes
+end_ticks : (ds : List Definition) (steps : List (Event × List Action)) (silent : Bool) (phase : Phase) (s e : StandingState) (now : ℕ) (left : List ℕ) (rest acts : List Action) → s.session.phase ≡ phase → LeavesOnly left acts → IsKeptIn true (ids_of ds) steps s.session.phase → TicksIn silent phase s now left rest e → ends_resync rest ≡ true → IsTaught (staying left ds) (with_step steps events.Tick acts) e.session
+end_ticks ds steps true phase s e now left rest acts stands only kept (leaves, is, session, paces) comes = never_ends rest (ap ends_resync is) comes
+end_ticks ds steps false (phases.Open c) s e now left rest acts stands only kept (leaves, is, session, paces) comes =
+    end_leaving left ds steps _ c rest acts e.session only (subst (IsKeptIn true (ids_of ds) steps) stands kept) is (ap (λ (x : SessionState). x.phase) session) comes
+end_ticks ds steps false (phases.New hello c) s e now left rest acts stands only kept (leaves, is, same) comes = never_ends rest (ap ends_resync is) comes
+end_ticks ds steps false (phases.Hello greeter bytes c) s e now left rest acts stands only kept (leaves, is, same) comes = never_ends rest (ap ends_resync is) comes
+end_ticks ds steps false phases.Ended s e now left rest acts stands only kept (leaves, is, same) comes = never_ends rest (ap ends_resync is) comes
 
--- ---- a node that becomes up to date
+-- ---- one step, a tick or not
 
-kept_caught : (ids : List ℕ) (steps : List (Event × List Action)) (left : Bool) (phase : Phase) → IsKeptIn true ids steps phase → IsKeptIn true ids steps (changed (caught_up_in left) phase)
-kept_caught ids steps left (phases.New hello c) kept = kept
-kept_caught ids steps left (phases.Hello greeter bytes c) kept = kept
-kept_caught ids steps left (phases.Open c) kept = kept
-kept_caught ids steps left phases.Ended kept = tt
+-- the tables that an event leaves
+abbrev pub left_by : Event → List Action → List ℕ
+left_by event acts = cond (is_tick event) (reopened_in acts) []
+
+none_left : (event : Event) (acts : List Action) → is_tick event ≡ false → left_by event acts ≡ []
+none_left event acts other = ap (λ (b : Bool). cond b (reopened_in acts) []) other
+
+stays_all : (event : Event) (acts : List Action) (ds : List Definition) → is_tick event ≡ false → ds ≡ staying (left_by event acts) ds
+stays_all event acts ds other = sym (ap (λ (xs : List ℕ). staying xs ds) (none_left event acts other) ∙ staying_all ds)
+
+kept_tick : (ds : List Definition) (steps : List (Event × List Action)) (s e : StandingState) (now : ℕ) (acts : List Action) → IsKeptIn true (ids_of ds) steps s.session.phase → Stands s now events.Tick acts e → IsKeptIn true (ids_of (staying (reopened_in acts) ds)) (with_step steps events.Tick acts) e.session.phase
+kept_tick ds steps s e now acts kept (asked, (left, rest, ticks, is)) =
+    subst (λ (xs : List ℕ). IsKeptIn true (ids_of (staying xs ds)) (with_step steps events.Tick acts) e.session.phase) (sym (reopens_left _ s.session.phase s e now left rest acts ticks is))
+    (kept_ticks ds steps _ s.session.phase s e now left rest acts refl asked (tick_leaves_only _ s.session.phase s e now left rest acts ticks is) kept ticks)
+
+kept_happens : (one : Happening) (ds : List Definition) (steps : List (Event × List Action)) (s e : StandingState) → IsKeptIn true (ids_of ds) steps s.session.phase → Happens s one e → IsKeptIn true (ids_of (staying (left_by one.event one.acts) ds)) (with_step steps one.event one.acts) e.session.phase
+kept_happens one ds steps s e kept happens = elim (tick_or_not one.event) [
+  | inl is ↦
+      subst (λ (event : Event). IsKeptIn true (ids_of (staying (left_by event one.acts) ds)) (with_step steps event one.acts) e.session.phase) (sym is)
+      (kept_tick ds steps s e one.now one.acts kept (subst (λ (event : Event). Stands s one.now event one.acts e) is happens))
+  | inr other ↦
+      subst (λ (xs : List Definition). IsKeptIn true (ids_of xs) (with_step steps one.event one.acts) e.session.phase) (stays_all one.event one.acts ds other)
+      (kept_stands (ids_of ds) steps one.event s e one.now one.acts other kept happens)
+]
+
+end_tick : (ds : List Definition) (steps : List (Event × List Action)) (s e : StandingState) (now : ℕ) (acts : List Action) → IsKeptIn true (ids_of ds) steps s.session.phase → Stands s now events.Tick acts e → ends_resync acts ≡ true → IsTaught (staying (reopened_in acts) ds) (with_step steps events.Tick acts) e.session
+end_tick ds steps s e now acts kept (asked, (left, rest, ticks, is)) comes =
+    subst (λ (xs : List ℕ). IsTaught (staying xs ds) (with_step steps events.Tick acts) e.session) (sym (reopens_left _ s.session.phase s e now left rest acts ticks is))
+    (end_ticks ds steps _ s.session.phase s e now left rest acts refl (tick_leaves_only _ s.session.phase s e now left rest acts ticks is) kept ticks
+    (sym (ap ends_resync is ∙ after_reopening is_end (λ table. refl) left rest) ∙ comes))
+
+end_happens : (one : Happening) (ds : List Definition) (steps : List (Event × List Action)) (s e : StandingState) → IsKeptIn true (ids_of ds) steps s.session.phase → Happens s one e → ends_resync one.acts ≡ true → IsTaught (staying (left_by one.event one.acts) ds) (with_step steps one.event one.acts) e.session
+end_happens one ds steps s e kept happens comes = elim (tick_or_not one.event) [
+  | inl is ↦
+      subst (λ (event : Event). IsTaught (staying (left_by event one.acts) ds) (with_step steps event one.acts) e.session) (sym is)
+      (end_tick ds steps s e one.now one.acts kept (subst (λ (event : Event). Stands s one.now event one.acts e) is happens) comes)
+  | inr other ↦
+      subst (λ (xs : List Definition). IsTaught xs (with_step steps one.event one.acts) e.session) (stays_all one.event one.acts ds other)
+      (end_stands ds steps one.event s e one.now one.acts other kept happens comes)
+]
 
 -- ---- runs
 
 -- the tables that no tick left
 abbrev pub rest_after : List Definition → List Happening → List Definition
 rest_after ds [] = ds
-rest_after ds (At now event acts ∷ steps) = rest_after ds steps
-rest_after ds (Tick now left acts ∷ steps) = rest_after (staying left ds) steps
-rest_after ds (Ask now ∷ steps) = rest_after ds steps
-rest_after ds (CatchUp ∷ steps) = rest_after ds steps
+rest_after ds (one ∷ steps) = rest_after (staying (left_by one.event one.acts) ds) steps
 
 pub lasts_kept : (steps : List Happening) (ds : List Definition) (before : List (Event × List Action)) (s e : StandingState) → IsKeptIn true (ids_of ds) before s.session.phase → Lasts s steps e → IsKeptIn true (ids_of (rest_after ds steps)) (before ++ handed steps) e.session.phase
 lasts_kept [] ds before s e kept here =
     subst (λ (xs : List (Event × List Action)). IsKeptIn true (ids_of ds) xs e.session.phase) (sym (append-nil before)) (subst (λ (x : StandingState). IsKeptIn true (ids_of ds) before x.session.phase) (sym here) kept)
-lasts_kept (At now event acts ∷ steps) ds before s e kept (mid, stands, lasts) =
-    let grouped : with_step before event acts ++ handed steps ≡ before ++ ((event, acts) ∷ handed steps) = append_assoc before ((event, acts) ∷ []) (handed steps) in
-    subst (λ (xs : List (Event × List Action)). IsKeptIn true (ids_of (rest_after ds steps)) xs e.session.phase) grouped
-    (lasts_kept steps ds (with_step before event acts) mid e (kept_stands (ids_of ds) before event s mid now acts kept stands) lasts)
-lasts_kept (Tick now left acts ∷ steps) ds before s e kept (mid, (asked, ticks), lasts) =
-    lasts_kept steps (staying left ds) before mid e (kept_ticks ds before _ s.session.phase s mid now left acts refl asked kept ticks) lasts
-lasts_kept (Ask now ∷ steps) ds before s e kept (mid, sent, lasts) =
-    lasts_kept steps ds before mid e (subst (λ (x : StandingState). IsKeptIn true (ids_of ds) before x.session.phase) (sym sent) kept) lasts
-lasts_kept (CatchUp ∷ steps) ds before s e kept (mid, caught, lasts) =
-    lasts_kept steps ds before mid e (subst (λ (x : StandingState). IsKeptIn true (ids_of ds) before x.session.phase) (sym caught) (kept_caught (ids_of ds) before s.pace.left s.session.phase kept)) lasts
+lasts_kept (one ∷ steps) ds before s e kept (mid, happens, lasts) =
+    let grouped : with_step before one.event one.acts ++ handed steps ≡ before ++ ((one.event, one.acts) ∷ handed steps) = append_assoc before ((one.event, one.acts) ∷ []) (handed steps) in
+    subst (λ (xs : List (Event × List Action)). IsKeptIn true (ids_of (rest_after (staying (left_by one.event one.acts) ds) steps)) xs e.session.phase) grouped
+    (lasts_kept steps (staying (left_by one.event one.acts) ds) (with_step before one.event one.acts) mid e (kept_happens one ds before s mid kept happens) lasts)
 
-rest_and_at : (steps : List Happening) (ds : List Definition) (now : ℕ) (event : Event) (acts : List Action) → rest_after ds (steps ++ (At now event acts ∷ [])) ≡ rest_after ds steps
-rest_and_at [] ds now event acts = refl
-rest_and_at (At n given done ∷ steps) ds now event acts = rest_and_at steps ds now event acts
-rest_and_at (Tick n left done ∷ steps) ds now event acts = rest_and_at steps (staying left ds) now event acts
-rest_and_at (Ask n ∷ steps) ds now event acts = rest_and_at steps ds now event acts
-rest_and_at (CatchUp ∷ steps) ds now event acts = rest_and_at steps ds now event acts
+rest_and_one : (steps : List Happening) (ds : List Definition) (one : Happening) → rest_after ds (steps ++ (one ∷ [])) ≡ staying (left_by one.event one.acts) (rest_after ds steps)
+rest_and_one [] ds one = refl
+rest_and_one (first ∷ steps) ds one = rest_and_one steps (staying (left_by first.event first.acts) ds) one
 
-rest_and_tick : (steps : List Happening) (ds : List Definition) (now : ℕ) (left : List ℕ) (acts : List Action) → rest_after ds (steps ++ (Tick now left acts ∷ [])) ≡ staying left (rest_after ds steps)
-rest_and_tick [] ds now left acts = refl
-rest_and_tick (At n given done ∷ steps) ds now left acts = rest_and_tick steps ds now left acts
-rest_and_tick (Tick n others done ∷ steps) ds now left acts = rest_and_tick steps (staying others ds) now left acts
-rest_and_tick (Ask n ∷ steps) ds now left acts = rest_and_tick steps ds now left acts
-rest_and_tick (CatchUp ∷ steps) ds now left acts = rest_and_tick steps ds now left acts
-
-handed_and_at : (steps : List Happening) (now : ℕ) (event : Event) (acts : List Action) → handed (steps ++ (At now event acts ∷ [])) ≡ with_step (handed steps) event acts
-handed_and_at [] now event acts = refl
-handed_and_at (At n given done ∷ steps) now event acts = ap (λ (xs : List (Event × List Action)). (given, done) ∷ xs) (handed_and_at steps now event acts)
-handed_and_at (Tick n left done ∷ steps) now event acts = handed_and_at steps now event acts
-handed_and_at (Ask n ∷ steps) now event acts = handed_and_at steps now event acts
-handed_and_at (CatchUp ∷ steps) now event acts = handed_and_at steps now event acts
-
-handed_and_tick : (steps : List Happening) (now : ℕ) (left : List ℕ) (acts : List Action) → handed (steps ++ (Tick now left acts ∷ [])) ≡ handed steps
-handed_and_tick [] now left acts = refl
-handed_and_tick (At n given done ∷ steps) now left acts = ap (λ (xs : List (Event × List Action)). (given, done) ∷ xs) (handed_and_tick steps now left acts)
-handed_and_tick (Tick n others done ∷ steps) now left acts = handed_and_tick steps now left acts
-handed_and_tick (Ask n ∷ steps) now left acts = handed_and_tick steps now left acts
-handed_and_tick (CatchUp ∷ steps) now left acts = handed_and_tick steps now left acts
+pub handed_and_one : (steps : List Happening) (one : Happening) → handed (steps ++ (one ∷ [])) ≡ with_step (handed steps) one.event one.acts
+handed_and_one [] one = refl
+handed_and_one (first ∷ steps) one = ap (λ (xs : List (Event × List Action)). (first.event, first.acts) ∷ xs) (handed_and_one steps one)
 
 -- ---- each table is taught or was left
 
@@ -489,23 +563,15 @@ one_or : (P : ℕ → Type 0) (leaves_it : Bool) (steps : List Happening) (d : D
 one_or P true steps d xs all = (inl refl, all)
 one_or P false steps d xs all = (all.0, all.1)
 
-tick_or : (P : ℕ → Type 0) (now : ℕ) (left : List ℕ) (acts : List Action) (steps : List Happening) (ds : List Definition) → AllByRecursion (IsOr P steps) (staying left ds) → AllByRecursion (IsOr P (Tick now left acts ∷ steps)) ds
-tick_or P now left acts steps [] all = tt
-tick_or P now left acts steps (d ∷ ds) all =
-    let both = one_or P (leaves d.id (Tick now left acts)) steps d (staying left ds) all in
-    (both.0, tick_or P now left acts steps ds both.1)
+left_if : (b : Bool) (t : ℕ) (acts : List Action) → list_any (λ table. table == t) (cond b (reopened_in acts) []) ≡ (b && reopened t acts)
+left_if true t acts = is_reopened t acts
+left_if false t acts = refl
 
-at_or : (P : ℕ → Type 0) (now : ℕ) (event : Event) (acts : List Action) (steps : List Happening) (ds : List Definition) → AllByRecursion (IsOr P steps) ds → AllByRecursion (IsOr P (At now event acts ∷ steps)) ds
-at_or P now event acts steps [] all = tt
-at_or P now event acts steps (d ∷ ds) all = (all.0, at_or P now event acts steps ds all.1)
-
-ask_or : (P : ℕ → Type 0) (now : ℕ) (steps : List Happening) (ds : List Definition) → AllByRecursion (IsOr P steps) ds → AllByRecursion (IsOr P (Ask now ∷ steps)) ds
-ask_or P now steps [] all = tt
-ask_or P now steps (d ∷ ds) all = (all.0, ask_or P now steps ds all.1)
-
-catch_or : (P : ℕ → Type 0) (steps : List Happening) (ds : List Definition) → AllByRecursion (IsOr P steps) ds → AllByRecursion (IsOr P (CatchUp ∷ steps)) ds
-catch_or P steps [] all = tt
-catch_or P steps (d ∷ ds) all = (all.0, catch_or P steps ds all.1)
+step_or : (P : ℕ → Type 0) (one : Happening) (steps : List Happening) (ds : List Definition) → AllByRecursion (IsOr P steps) (staying (left_by one.event one.acts) ds) → AllByRecursion (IsOr P (one ∷ steps)) ds
+step_or P one steps [] all = tt
+step_or P one steps (d ∷ ds) all =
+    let both = one_or P (list_any (λ table. table == d.id) (left_by one.event one.acts)) steps d (staying (left_by one.event one.acts) ds) all in
+    (subst (λ (b : Bool). ((b || was_left d.id steps) ≡ true) ⊎ P d.id) (left_if (is_tick one.event) d.id one.acts) both.0, step_or P one steps ds both.1)
 
 none_or : (P : ℕ → Type 0) (ds : List Definition) → AllByRecursion (λ d. P d.id) ds → AllByRecursion (IsOr P []) ds
 none_or P [] all = tt
@@ -513,10 +579,7 @@ none_or P (d ∷ ds) all = (inr all.0, none_or P ds all.1)
 
 all_or : (P : ℕ → Type 0) (steps : List Happening) (ds : List Definition) → AllByRecursion (λ d. P d.id) (rest_after ds steps) → AllByRecursion (IsOr P steps) ds
 all_or P [] ds all = none_or P ds all
-all_or P (At now event acts ∷ steps) ds all = at_or P now event acts steps ds (all_or P steps ds all)
-all_or P (Tick now left acts ∷ steps) ds all = tick_or P now left acts steps ds (all_or P steps (staying left ds) all)
-all_or P (Ask now ∷ steps) ds all = ask_or P now steps ds (all_or P steps ds all)
-all_or P (CatchUp ∷ steps) ds all = catch_or P steps ds (all_or P steps ds all)
+all_or P (one ∷ steps) ds all = step_or P one steps ds (all_or P steps (staying (left_by one.event one.acts) ds) all)
 
 -- ---- the law
 
@@ -524,19 +587,12 @@ pub begun_kept : (roster : List Definition) (begun : StandingState) → BeginsTo
 begun_kept roster begun begins =
     begun_in (IsKeptIn true (ids_of roster) []) roster begun ((λ hello up_to_date. (shares_begin roster, refl, refl, refl)), (λ own peers up_to_date. (shares_begin roster, refl, refl, refl))) begins
 
-end_happens : (one : Happening) (ds : List Definition) (steps : List Happening) (s e : StandingState) → IsKeptIn true (ids_of (rest_after ds steps)) (handed steps) s.session.phase → Happens s one e → ends_resync (acts_of one) ≡ true → IsTaught (rest_after ds (steps ++ (one ∷ []))) (handed (steps ++ (one ∷ []))) e.session
-end_happens (At now event acts) ds steps s e kept stands comes =
-    subst (λ (xs : List Definition). IsTaught xs (handed (steps ++ (At now event acts ∷ []))) e.session) (sym (rest_and_at steps ds now event acts))
-    (subst (λ (hs : List (Event × List Action)). IsTaught (rest_after ds steps) hs e.session) (sym (handed_and_at steps now event acts))
-    (end_stands (rest_after ds steps) (handed steps) event s e now acts kept stands comes))
-end_happens (Tick now left acts) ds steps s e kept (asked, ticks) comes =
-    subst (λ (xs : List Definition). IsTaught xs (handed (steps ++ (Tick now left acts ∷ []))) e.session) (sym (rest_and_tick steps ds now left acts))
-    (subst (λ (hs : List (Event × List Action)). IsTaught (staying left (rest_after ds steps)) hs e.session) (sym (handed_and_tick steps now left acts))
-    (end_ticks (rest_after ds steps) (handed steps) _ s.session.phase s e now left acts refl kept ticks comes))
-end_happens (Ask now) ds steps s e kept sent comes = absurd (false≢true comes)
-end_happens CatchUp ds steps s e kept caught comes = absurd (false≢true comes)
-
-pub ends_taught_or_left : (roster : List Definition) (begun s e : StandingState) (steps : List Happening) (one : Happening) → BeginsToStay roster begun → Lasts begun steps s → Happens s one e → ends_resync (acts_of one) ≡ true → HasNothingOut e.session × AllByRecursion (λ d. (was_left d.id (steps ++ (one ∷ [])) ≡ true) ⊎ HasNothingLeft kinds.Standing (handed (steps ++ (one ∷ []))) d.id) roster
+pub ends_taught_or_left : (roster : List Definition) (begun s e : StandingState) (steps : List Happening) (one : Happening) → BeginsToStay roster begun → Lasts begun steps s → Happens s one e → ends_resync one.acts ≡ true → HasNothingOut e.session × AllByRecursion (λ d. (was_left d.id (steps ++ (one ∷ [])) ≡ true) ⊎ HasNothingLeft kinds.Standing (handed (steps ++ (one ∷ []))) d.id) roster
 ends_taught_or_left roster begun s e steps one begins lasts happens comes =
-    let taught = end_happens one roster steps s e (lasts_kept steps roster [] begun s (begun_kept roster begun begins) lasts) happens comes in
-    (taught.0, all_or (HasNothingLeft kinds.Standing (handed (steps ++ (one ∷ [])))) (steps ++ (one ∷ [])) roster taught.1)
+    let taught = end_happens one (rest_after roster steps) (handed steps) s e (lasts_kept steps roster [] begun s (begun_kept roster begun begins) lasts) happens comes in
+    let rest : AllByRecursion (λ d. HasNothingLeft kinds.Standing (with_step (handed steps) one.event one.acts) d.id) (rest_after roster (steps ++ (one ∷ []))) =
+    subst (AllByRecursion (λ d. HasNothingLeft kinds.Standing (with_step (handed steps) one.event one.acts) d.id)) (sym (rest_and_one steps roster one)) taught.1 in (
+      taught.0,
+      all_or (HasNothingLeft kinds.Standing (handed (steps ++ (one ∷ [])))) (steps ++ (one ∷ [])) roster
+          (subst (λ (hs : List (Event × List Action)). AllByRecursion (λ d. HasNothingLeft kinds.Standing hs d.id) (rest_after roster (steps ++ (one ∷ [])))) (sym (handed_and_one steps one)) rest),
+    )

@@ -1,5 +1,5 @@
 -- A session that stays refuses an event exactly for the cause for which it may not come.
-use Rattle.std.proofs.Common.{◌≡◌, ◌≢◌, ℕ, Bool, true, false, List, Result, Ok, Err, IfOk, IfErr, refl, sym, ap, ◌∙◌, subst}
+use Rattle.std.proofs.Common.{◌≡◌, ◌≢◌, ℕ, Bool, true, false, List, Result, Ok, Err, IfOk, IfErr, refl, sym, ap, ◌∙◌}
 use Rattle.std.proofs.lemmas.Bool.{false≢true}
 use Rattle.session_core.specs.declared.action.Action.{Action}
 use Rattle.session_core.specs.declared.error.SessionError.{SessionError}
@@ -9,7 +9,7 @@ use Rattle.session_core.specs.declared.event.Event.TheVariants as events
 use Rattle.session_core.specs.Phases.{Phase}
 use Rattle.session_core.specs.Phases as phases
 use Rattle.session_core.specs.Sessions.{IsWhy, Refuses, is_asked}
-use Rattle.session_core.specs.Standing.{StandingState, Stands, Ticks}
+use Rattle.session_core.specs.Standing.{StandingState, Stands}
 use Rattle.session_core.proofs.StandingOnce.{asked_where_stands}
 
 unasked_why : (asked : Bool) (e : SessionError) → e ≢ errors.Memory → IsWhy asked e → asked ≡ false
@@ -46,10 +46,3 @@ pub step_refuses : {A : Type 0} (items : A → List Action) (s end : StandingSta
 step_refuses items s end now event (Ok acts) e other refuses stands refused =
     absurd (false≢true (sym (unasked_at s.session.phase event e other refuses) ∙ asked_where_stands s end now event (items acts) stands))
 step_refuses items s end now event (Err f) e other refuses stands refused = ap (λ (x : SessionError). Err x) (refused_once s.session.phase event e f other refuses refused)
-
--- the same of a tick, which may come whenever a turn may
-pub tick_refuses : {A : Type 0} (left : A → List ℕ) (items : A → List Action) (s end : StandingState) (now : ℕ) (result : Result A SessionError) (e : SessionError) → e ≢ errors.Memory → Refuses s.session.phase events.Turn e
-    → IfOk result (λ t. Ticks s now (left t) (items t) end) → IfErr result (λ f. Refuses s.session.phase events.Turn f) → result ≡ Err e
-tick_refuses left items s end now (Ok t) e other refuses (asked, ticks) refused =
-    absurd (false≢true (sym (unasked_at s.session.phase events.Turn e other refuses) ∙ asked))
-tick_refuses left items s end now (Err f) e other refuses ticks refused = ap (λ (x : SessionError). Err x) (refused_once s.session.phase events.Turn e f other refuses refused)

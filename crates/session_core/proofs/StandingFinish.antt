@@ -1,5 +1,5 @@
 -- A session that stays sends resync finished only if no tick left a table.
-use Rattle.std.proofs.Common.{◌≡◌, ℕ, Bool, true, false, ◌&&◌, ◌||◌, List, [], ◌∷◌, ◌++◌, Some, None, Option, Ok, Err, Result, refl, sym, ap, ◌∙◌, subst}
+use Rattle.std.proofs.Common.{◌≡◌, ℕ, Bool, true, false, ◌&&◌, ◌||◌, List, [], ◌∷◌, ◌++◌, Some, None, Option, Ok, Err, Result, refl, sym, ap, ◌∙◌, subst, inl, inr}
 use Rattle.std.specs.Prelude.{drop}
 use Rattle.std.specs.List.{list_any}
 use Rattle.std.proofs.lemmas.Bool.{false≢true}
@@ -40,10 +40,12 @@ use Rattle.session_core.specs.Courses.{Course, course_fed, is_held, teaching_ane
 use Rattle.session_core.specs.Sessions.{SessionState, going, Concludes, ReceivesBytes, first_word, IsWelcomed, Connects, Accepts, Greets, GoesIn, GoesNew, GoesHello, GoesOpen, Turns, HasNothing, FinishesResync, StartsPendingResync, Settles, opening, speaking}
 use Rattle.session_core.specs.Runs.{is_end, ends_resync}
 use Rattle.session_core.specs.Paces.{Pace, inferred, is_ahead}
-use Rattle.session_core.specs.Standing.{StandingState, changed, finished_if, finishing, begun_resync, Does, task_at, TakesTurn, Writes, Stands, without_tables, leaving, any_left, heartbeats, TicksIn, caught_up_in, caught_up}
-use Rattle.session_core.specs.StandingRuns.{Happening, At, Tick, Ask, CatchUp, Happens, Lasts, BeginsToStay, acts_of, leaves_any, is_finish}
+use Rattle.session_core.specs.Standing.{StandingState, finished_if, finishing, begun_resync, Does, task_at, TakesTurn, Writes, Stands, without_tables, leaving, any_left, heartbeats, TicksIn, word_of, reopening, is_reopen, answer_of_refusal}
+use Rattle.session_core.specs.Happenings.{Happening, is_tick, leaves_any, is_finish}
+use Rattle.session_core.proofs.MachineRuns.{Happens, Lasts, BeginsToStay}
+use Rattle.session_core.proofs.TickGives.{any_reopened, none_reopening, tick_or_not}
 use Rattle.session_core.proofs.EndLemmas.{plain_reopens}
-use Rattle.session_core.proofs.StandingEnds.{end_ack, endless_in, endless_refusal}
+use Rattle.session_core.proofs.StandingEnds.{end_ack, endless_in, endless_refusal, endless_word}
 
 -- ---- whether this node is up to date
 
@@ -98,18 +100,26 @@ up_bytes b s c first acts e up (result, given, mid, receives, concludes) = up_co
 
 -- ---- events of the session
 
-up_new : (b : Bool) (s : SessionState) (hello : Hello) (c : Course) (event : Event) (acts : List Action) (e : SessionState) → c.up_to_date ≡ b → GoesNew s hello c event acts e → IsUp b e.phase
-up_new b s hello c events.Opened acts e up (is, ends) = up_at b e _ ends up
-up_new b s hello c events.Turn acts e up (is, ends) = up_at b e _ ends up
-up_new b s hello c events.End acts e up (is, ends) = up_at b e _ ends tt
-up_new b s hello c events.ReadFault acts e up (is, ends) = up_at b e _ ends tt
-up_new b s hello c events.WriteFault acts e up (is, ends) = up_at b e _ ends tt
-up_new b s hello c (events.Bytes bytes) acts e up goes = absurd goes
-up_new b s hello c (events.Copied table batch) acts e up goes = absurd goes
-up_new b s hello c (events.Nothing table) acts e up goes = absurd goes
-up_new b s hello c (events.Written known) acts e up goes = absurd goes
-up_new b s hello c (events.Settled table settled) acts e up goes = absurd goes
-up_new b s hello c (events.Refused table) acts e up goes = absurd goes
+-- any event but word that this node is up to date
+abbrev IsNoWord : Event → Type 0
+IsNoWord events.CaughtUp = ⊥
+IsNoWord event = Unit {0}
+
+up_new : (b : Bool) (s : SessionState) (hello : Hello) (c : Course) (event : Event) (acts : List Action) (e : SessionState) → c.up_to_date ≡ b → IsNoWord event → GoesNew s hello c event acts e → IsUp b e.phase
+up_new b s hello c events.Opened acts e up other (is, ends) = up_at b e _ ends up
+up_new b s hello c events.Turn acts e up other (is, ends) = up_at b e _ ends up
+up_new b s hello c events.Tick acts e up other (is, ends) = up_at b e _ ends up
+up_new b s hello c events.Ask acts e up other (is, ends) = up_at b e _ ends up
+up_new b s hello c events.CaughtUp acts e up other goes = absurd other
+up_new b s hello c events.End acts e up other (is, ends) = up_at b e _ ends tt
+up_new b s hello c events.ReadFault acts e up other (is, ends) = up_at b e _ ends tt
+up_new b s hello c events.WriteFault acts e up other (is, ends) = up_at b e _ ends tt
+up_new b s hello c (events.Bytes bytes) acts e up other goes = absurd goes
+up_new b s hello c (events.Copied table batch) acts e up other goes = absurd goes
+up_new b s hello c (events.Nothing table) acts e up other goes = absurd goes
+up_new b s hello c (events.Written known) acts e up other goes = absurd goes
+up_new b s hello c (events.Settled table settled) acts e up other goes = absurd goes
+up_new b s hello c (events.Refused table) acts e up other goes = absurd goes
 
 up_welcomed : (b q : Bool) (version : Version) (code : ℕ) (s : SessionState) (c : Course) (rest : List ℕ) (acts : List Action) (e : SessionState) → c.up_to_date ≡ b → IsWelcomed q version code s c rest acts e → IsUp b e.phase
 up_welcomed b true version code s c rest acts e up receives = up_bytes b (speaking version s) (course_fed c rest) (sends_control (first_word c.stays) ∷ opening version c.shares) acts e up receives
@@ -129,18 +139,21 @@ up_greets : (b : Bool) (s : SessionState) (greeter : Greeter) (bytes : List ℕ)
 up_greets b s (greeters.Connects version) bytes c acts e up goes = up_connects b version (status_of bytes) s bytes c acts e up goes
 up_greets b s (greeters.Accepts own peers) bytes c acts e up goes = up_accepts b (answer_of own peers bytes) s (greeters.Accepts own peers) bytes c acts e up goes
 
-up_hello : (b : Bool) (s : SessionState) (greeter : Greeter) (bytes : List ℕ) (c : Course) (event : Event) (acts : List Action) (e : SessionState) → c.up_to_date ≡ b → GoesHello s greeter bytes c event acts e → IsUp b e.phase
-up_hello b s greeter bytes c (events.Bytes piece) acts e up goes = up_greets b s greeter (bytes ++ piece) c acts e up goes
-up_hello b s greeter bytes c events.Turn acts e up (is, ends) = up_at b e _ ends up
-up_hello b s greeter bytes c events.End acts e up (is, ends) = up_at b e _ ends tt
-up_hello b s greeter bytes c events.ReadFault acts e up (is, ends) = up_at b e _ ends tt
-up_hello b s greeter bytes c events.WriteFault acts e up (is, ends) = up_at b e _ ends tt
-up_hello b s greeter bytes c events.Opened acts e up goes = absurd goes
-up_hello b s greeter bytes c (events.Copied table batch) acts e up goes = absurd goes
-up_hello b s greeter bytes c (events.Nothing table) acts e up goes = absurd goes
-up_hello b s greeter bytes c (events.Written known) acts e up goes = absurd goes
-up_hello b s greeter bytes c (events.Settled table settled) acts e up goes = absurd goes
-up_hello b s greeter bytes c (events.Refused table) acts e up goes = absurd goes
+up_hello : (b : Bool) (s : SessionState) (greeter : Greeter) (bytes : List ℕ) (c : Course) (event : Event) (acts : List Action) (e : SessionState) → c.up_to_date ≡ b → IsNoWord event → GoesHello s greeter bytes c event acts e → IsUp b e.phase
+up_hello b s greeter bytes c (events.Bytes piece) acts e up other goes = up_greets b s greeter (bytes ++ piece) c acts e up goes
+up_hello b s greeter bytes c events.Turn acts e up other (is, ends) = up_at b e _ ends up
+up_hello b s greeter bytes c events.Tick acts e up other (is, ends) = up_at b e _ ends up
+up_hello b s greeter bytes c events.Ask acts e up other (is, ends) = up_at b e _ ends up
+up_hello b s greeter bytes c events.CaughtUp acts e up other goes = absurd other
+up_hello b s greeter bytes c events.End acts e up other (is, ends) = up_at b e _ ends tt
+up_hello b s greeter bytes c events.ReadFault acts e up other (is, ends) = up_at b e _ ends tt
+up_hello b s greeter bytes c events.WriteFault acts e up other (is, ends) = up_at b e _ ends tt
+up_hello b s greeter bytes c events.Opened acts e up other goes = absurd goes
+up_hello b s greeter bytes c (events.Copied table batch) acts e up other goes = absurd goes
+up_hello b s greeter bytes c (events.Nothing table) acts e up other goes = absurd goes
+up_hello b s greeter bytes c (events.Written known) acts e up other goes = absurd goes
+up_hello b s greeter bytes c (events.Settled table settled) acts e up other goes = absurd goes
+up_hello b s greeter bytes c (events.Refused table) acts e up other goes = absurd goes
 
 up_turns : (b : Bool) (asked : Option ℕ) (s : SessionState) (c : Course) (acts : List Action) (e : SessionState) → c.up_to_date ≡ b → Turns asked s c acts e → IsUp b e.phase
 up_turns b None s c acts e up (is, ends) = up_at b e _ ends up
@@ -166,24 +179,27 @@ up_settles b settles.Older s c table acts e up (is, ends) = up_at b e _ ends up
 up_answered : (b : Bool) (c mid : Course) → mid ≡ record c { due = mid.due } → c.up_to_date ≡ b → mid.up_to_date ≡ b
 up_answered b c mid is up = ap (λ (x : Course). x.up_to_date) is ∙ up
 
-up_open : (b : Bool) (s : SessionState) (c : Course) (event : Event) (acts : List Action) (e : SessionState) → c.up_to_date ≡ b → GoesOpen s c event acts e → IsUp b e.phase
-up_open b s c events.Turn acts e up (due, turns) = up_turns b (table_to_ask c) s c acts e up turns
-up_open b s c (events.Bytes bytes) acts e up (due, receives) = up_bytes b s (course_fed c bytes) [] acts e up receives
-up_open b s c (events.Copied table batch) acts e up (mid, answered, (is, ends)) = up_at b e _ ends (up_answered b c mid answered.1 up)
-up_open b s c (events.Nothing table) acts e up (mid, answered, nothing) = up_nothing b mid.teaching s mid table acts e (up_answered b c mid answered.1 up) nothing
-up_open b s c (events.Written known) acts e up (mid, answered, is, ends) = up_at b e _ ends (up_answered b c mid answered.1 up)
-up_open b s c (events.Settled table settled) acts e up (mid, answered, settles) = up_settles b settled s mid table acts e (up_answered b c mid answered.1 up) settles
-up_open b s c (events.Refused table) acts e up (mid, answered, is, ends) = up_at b e _ ends tt
-up_open b s c events.End acts e up (is, ends) = up_at b e _ ends tt
-up_open b s c events.ReadFault acts e up (is, ends) = up_at b e _ ends tt
-up_open b s c events.WriteFault acts e up (is, ends) = up_at b e _ ends tt
-up_open b s c events.Opened acts e up goes = absurd goes
+up_open : (b : Bool) (s : SessionState) (c : Course) (event : Event) (acts : List Action) (e : SessionState) → c.up_to_date ≡ b → IsNoWord event → GoesOpen s c event acts e → IsUp b e.phase
+up_open b s c events.Turn acts e up other (due, turns) = up_turns b (table_to_ask c) s c acts e up turns
+up_open b s c events.Tick acts e up other (due, (is, ends)) = up_at b e _ ends up
+up_open b s c events.Ask acts e up other (due, (is, ends)) = up_at b e _ ends up
+up_open b s c events.CaughtUp acts e up other goes = absurd other
+up_open b s c (events.Bytes bytes) acts e up other (due, receives) = up_bytes b s (course_fed c bytes) [] acts e up receives
+up_open b s c (events.Copied table batch) acts e up other (mid, answered, (is, ends)) = up_at b e _ ends (up_answered b c mid answered.1 up)
+up_open b s c (events.Nothing table) acts e up other (mid, answered, nothing) = up_nothing b mid.teaching s mid table acts e (up_answered b c mid answered.1 up) nothing
+up_open b s c (events.Written known) acts e up other (mid, answered, is, ends) = up_at b e _ ends (up_answered b c mid answered.1 up)
+up_open b s c (events.Settled table settled) acts e up other (mid, answered, settles) = up_settles b settled s mid table acts e (up_answered b c mid answered.1 up) settles
+up_open b s c (events.Refused table) acts e up other (mid, answered, is, ends) = up_at b e _ ends tt
+up_open b s c events.End acts e up other (is, ends) = up_at b e _ ends tt
+up_open b s c events.ReadFault acts e up other (is, ends) = up_at b e _ ends tt
+up_open b s c events.WriteFault acts e up other (is, ends) = up_at b e _ ends tt
+up_open b s c events.Opened acts e up other goes = absurd goes
 
-up_in : (b : Bool) (phase : Phase) (s : SessionState) (event : Event) (acts : List Action) (e : SessionState) → IsUp b phase → GoesIn phase s event acts e → IsUp b e.phase
-up_in b (phases.New hello c) s event acts e up goes = up_new b s hello c event acts e up goes
-up_in b (phases.Hello greeter bytes c) s event acts e up goes = up_hello b s greeter bytes c event acts e up goes
-up_in b (phases.Open c) s event acts e up goes = up_open b s c event acts e up goes
-up_in b phases.Ended s event acts e up goes = absurd goes
+up_in : (b : Bool) (phase : Phase) (s : SessionState) (event : Event) (acts : List Action) (e : SessionState) → IsUp b phase → IsNoWord event → GoesIn phase s event acts e → IsUp b e.phase
+up_in b (phases.New hello c) s event acts e up other goes = up_new b s hello c event acts e up other goes
+up_in b (phases.Hello greeter bytes c) s event acts e up other goes = up_hello b s greeter bytes c event acts e up other goes
+up_in b (phases.Open c) s event acts e up other goes = up_open b s c event acts e up other goes
+up_in b phases.Ended s event acts e up other goes = absurd goes
 
 -- ---- steps of the session that stays
 
@@ -195,35 +211,46 @@ up_finishing : (b : Bool) (c : Course) → c.up_to_date ≡ b → (finishing c).
 up_finishing b c up = up_finished b (c.teaching && all_quiet c.shares) c up
 
 up_does : (b : Bool) (task : Task) (s e : StandingState) (c : Course) (now : ℕ) (acts : List Action) → s.session.phase ≡ phases.Open c → IsUp b s.session.phase → Does task s c now acts e → IsUp b e.session.phase
-up_does b tasks.Copy s e c now acts stands up (goes, paces) = up_in b s.session.phase s.session events.Turn acts e.session up goes
+up_does b tasks.Copy s e c now acts stands up (goes, paces) = up_in b s.session.phase s.session events.Turn acts e.session up tt goes
 up_does b tasks.Rest s e c now acts stands up (due, is, same) = subst (λ (x : StandingState). IsUp b x.session.phase) (sym same) up
 up_does b tasks.Begin s e c now acts stands up (due, is, session, paces) = up_at b e.session _ session (up_finishing b (teaching_anew c) (subst (IsUp b) stands up))
 
 up_turn : (b : Bool) (phase : Phase) (s e : StandingState) (now : ℕ) (acts : List Action) → s.session.phase ≡ phase → IsUp b s.session.phase → TakesTurn phase s now acts e → IsUp b e.session.phase
 up_turn b (phases.Open c) s e now acts stands up does = up_does b (task_at now s.pace c) s e c now acts stands up does
-up_turn b (phases.New hello c) s e now acts stands up (goes, paces) = up_in b s.session.phase s.session events.Turn acts e.session up goes
-up_turn b (phases.Hello greeter bytes c) s e now acts stands up (goes, paces) = up_in b s.session.phase s.session events.Turn acts e.session up goes
-up_turn b phases.Ended s e now acts stands up (goes, paces) = up_in b s.session.phase s.session events.Turn acts e.session up goes
+up_turn b (phases.New hello c) s e now acts stands up (goes, paces) = up_in b s.session.phase s.session events.Turn acts e.session up tt goes
+up_turn b (phases.Hello greeter bytes c) s e now acts stands up (goes, paces) = up_in b s.session.phase s.session events.Turn acts e.session up tt goes
+up_turn b phases.Ended s e now acts stands up (goes, paces) = up_in b s.session.phase s.session events.Turn acts e.session up tt goes
 
 up_writes : (b : Bool) (phase : Phase) (s e : StandingState) (now : ℕ) (known : KnownState) (acts : List Action) → IsUp b phase → Writes phase s now known acts e → IsUp b e.session.phase
 up_writes b (phases.Open c) s e now known acts up (goes, is, paces) =
-    up_open b (going s.session (ack_received c (inferred c.asked s.pace.progress)).1) (ack_received c (inferred c.asked s.pace.progress)).1 (events.Written known) [] e.session (up_ack c (inferred c.asked s.pace.progress) ∙ up) goes
+    up_open b (going s.session (ack_received c (inferred c.asked s.pace.progress)).1) (ack_received c (inferred c.asked s.pace.progress)).1 (events.Written known) [] e.session (up_ack c (inferred c.asked s.pace.progress) ∙ up) tt goes
 up_writes b (phases.New hello c) s e now known acts up writes = absurd writes
 up_writes b (phases.Hello greeter bytes c) s e now known acts up writes = absurd writes
 up_writes b phases.Ended s e now known acts up writes = absurd writes
 
-up_stands : (b : Bool) (event : Event) (s e : StandingState) (now : ℕ) (acts : List Action) → IsUp b s.session.phase → Stands s now event acts e → IsUp b e.session.phase
-up_stands b (events.Bytes bytes) s e now acts up (goes, paces) = up_in b s.session.phase s.session (events.Bytes bytes) acts e.session up goes
-up_stands b events.Turn s e now acts up turns = up_turn b s.session.phase s e now acts refl up turns
-up_stands b (events.Written known) s e now acts up writes = up_writes b s.session.phase s e now known acts up writes
-up_stands b (events.Copied table batch) s e now acts up (goes, paces) = up_in b s.session.phase s.session (events.Copied table batch) acts e.session up goes
-up_stands b (events.Refused table) s e now acts up (goes, paces) = up_in b s.session.phase s.session _ acts e.session up goes
-up_stands b events.Opened s e now acts up (goes, paces) = up_in b s.session.phase s.session events.Opened acts e.session up goes
-up_stands b events.End s e now acts up (goes, paces) = up_in b s.session.phase s.session events.End acts e.session up goes
-up_stands b events.ReadFault s e now acts up (goes, paces) = up_in b s.session.phase s.session events.ReadFault acts e.session up goes
-up_stands b events.WriteFault s e now acts up (goes, paces) = up_in b s.session.phase s.session events.WriteFault acts e.session up goes
-up_stands b (events.Nothing table) s e now acts up (goes, paces) = up_in b s.session.phase s.session (events.Nothing table) acts e.session up goes
-up_stands b (events.Settled table settled) s e now acts up (goes, paces) = up_in b s.session.phase s.session (events.Settled table settled) acts e.session up goes
+no_word : (b : Bool) → b ≡ true → IsNoWord (word_of b)
+no_word true so = tt
+no_word false so = absurd (false≢true so)
+
+refused_word : (b : Bool) (table : ℕ) → IsNoWord (answer_of_refusal b table)
+refused_word true table = tt
+refused_word false table = tt
+
+up_stands : (b : Bool) (event : Event) (s e : StandingState) (now : ℕ) (acts : List Action) → is_tick event ≡ false → s.pace.left ≡ true → IsUp b s.session.phase → Stands s now event acts e → IsUp b e.session.phase
+up_stands b (events.Bytes bytes) s e now acts other marked up (goes, paces) = up_in b s.session.phase s.session (events.Bytes bytes) acts e.session up tt goes
+up_stands b events.Turn s e now acts other marked up turns = up_turn b s.session.phase s e now acts refl up turns
+up_stands b (events.Written known) s e now acts other marked up writes = up_writes b s.session.phase s e now known acts up writes
+up_stands b (events.Copied table batch) s e now acts other marked up (goes, paces) = up_in b s.session.phase s.session (events.Copied table batch) acts e.session up tt goes
+up_stands b (events.Refused table) s e now acts other marked up (goes, paces) = up_in b s.session.phase s.session _ acts e.session up (refused_word (is_ahead table s.pace.progress) table) goes
+up_stands b events.Opened s e now acts other marked up (goes, paces) = up_in b s.session.phase s.session events.Opened acts e.session up tt goes
+up_stands b events.Ask s e now acts other marked up (goes, paces) = up_in b s.session.phase s.session events.Ask acts e.session up tt goes
+up_stands b events.CaughtUp s e now acts other marked up (goes, paces) = up_in b s.session.phase s.session _ acts e.session up (no_word s.pace.left marked) goes
+up_stands b events.Tick s e now acts other marked up stands = absurd (false≢true (sym other))
+up_stands b events.End s e now acts other marked up (goes, paces) = up_in b s.session.phase s.session events.End acts e.session up tt goes
+up_stands b events.ReadFault s e now acts other marked up (goes, paces) = up_in b s.session.phase s.session events.ReadFault acts e.session up tt goes
+up_stands b events.WriteFault s e now acts other marked up (goes, paces) = up_in b s.session.phase s.session events.WriteFault acts e.session up tt goes
+up_stands b (events.Nothing table) s e now acts other marked up (goes, paces) = up_in b s.session.phase s.session (events.Nothing table) acts e.session up tt goes
+up_stands b (events.Settled table settled) s e now acts other marked up (goes, paces) = up_in b s.session.phase s.session (events.Settled table settled) acts e.session up tt goes
 
 -- ---- whether a table was left
 
@@ -245,18 +272,21 @@ left_writes (phases.New hello c) s e now known acts writes = absurd writes
 left_writes (phases.Hello greeter bytes c) s e now known acts writes = absurd writes
 left_writes phases.Ended s e now known acts writes = absurd writes
 
-left_stands : (event : Event) (s e : StandingState) (now : ℕ) (acts : List Action) → Stands s now event acts e → e.pace.left ≡ s.pace.left
-left_stands (events.Bytes bytes) s e now acts (goes, paces) = ap (λ (p : Pace). p.left) paces
-left_stands events.Turn s e now acts turns = left_turn s.session.phase s e now acts turns
-left_stands (events.Written known) s e now acts writes = left_writes s.session.phase s e now known acts writes
-left_stands (events.Copied table batch) s e now acts (goes, paces) = ap (λ (p : Pace). p.left) paces
-left_stands (events.Refused table) s e now acts (goes, paces) = ap (λ (p : Pace). p.left) paces
-left_stands events.Opened s e now acts (goes, paces) = ap (λ (p : Pace). p.left) paces
-left_stands events.End s e now acts (goes, paces) = ap (λ (p : Pace). p.left) paces
-left_stands events.ReadFault s e now acts (goes, paces) = ap (λ (p : Pace). p.left) paces
-left_stands events.WriteFault s e now acts (goes, paces) = ap (λ (p : Pace). p.left) paces
-left_stands (events.Nothing table) s e now acts (goes, paces) = ap (λ (p : Pace). p.left) paces
-left_stands (events.Settled table settled) s e now acts (goes, paces) = ap (λ (p : Pace). p.left) paces
+left_stands : (event : Event) (s e : StandingState) (now : ℕ) (acts : List Action) → is_tick event ≡ false → Stands s now event acts e → e.pace.left ≡ s.pace.left
+left_stands (events.Bytes bytes) s e now acts other (goes, paces) = ap (λ (p : Pace). p.left) paces
+left_stands events.Turn s e now acts other turns = left_turn s.session.phase s e now acts turns
+left_stands (events.Written known) s e now acts other writes = left_writes s.session.phase s e now known acts writes
+left_stands (events.Copied table batch) s e now acts other (goes, paces) = ap (λ (p : Pace). p.left) paces
+left_stands (events.Refused table) s e now acts other (goes, paces) = ap (λ (p : Pace). p.left) paces
+left_stands events.Opened s e now acts other (goes, paces) = ap (λ (p : Pace). p.left) paces
+left_stands events.Ask s e now acts other (goes, paces) = ap (λ (p : Pace). p.left) paces
+left_stands events.CaughtUp s e now acts other (goes, paces) = ap (λ (p : Pace). p.left) paces
+left_stands events.Tick s e now acts other stands = absurd (false≢true (sym other))
+left_stands events.End s e now acts other (goes, paces) = ap (λ (p : Pace). p.left) paces
+left_stands events.ReadFault s e now acts other (goes, paces) = ap (λ (p : Pace). p.left) paces
+left_stands events.WriteFault s e now acts other (goes, paces) = ap (λ (p : Pace). p.left) paces
+left_stands (events.Nothing table) s e now acts other (goes, paces) = ap (λ (p : Pace). p.left) paces
+left_stands (events.Settled table settled) s e now acts other (goes, paces) = ap (λ (p : Pace). p.left) paces
 
 -- ---- ticks
 
@@ -269,24 +299,24 @@ abbrev IsMarked : Bool → StandingState → Type 0
 IsMarked left s = left ≡ true → IsPartial s
 
 -- if a tick left no table, one was left before
-left_before : (was : Bool) (now : ℕ) (left : List ℕ) (acts : List Action) → left ≡ [] → (was || leaves_any (Tick now left acts)) ≡ true → was ≡ true
+left_before : (was : Bool) (now : ℕ) (left : List ℕ) (acts : List Action) → left ≡ [] → (was || any_left left) ≡ true → was ≡ true
 left_before true now left acts none so = refl
-left_before false now left acts none so = absurd (false≢true (sym (ap (λ (xs : List ℕ). leaves_any (Tick now xs acts)) none) ∙ so))
+left_before false now left acts none so = absurd (false≢true (sym (ap (λ (xs : List ℕ). any_left xs) none) ∙ so))
 
-left_leaving : (was before : Bool) (now : ℕ) (left : List ℕ) (acts : List Action) → (was ≡ true → before ≡ true) → (was || leaves_any (Tick now left acts)) ≡ true → (any_left left || before) ≡ true
+left_leaving : (was before : Bool) (now : ℕ) (left : List ℕ) (acts : List Action) → (was ≡ true → before ≡ true) → (was || any_left left) ≡ true → (any_left left || before) ≡ true
 left_leaving true before now [] acts marked so = marked refl
 left_leaving false before now [] acts marked so = absurd (false≢true so)
 left_leaving was before now (table ∷ tables) acts marked so = refl
 
-marked_leaving : (was : Bool) (now : ℕ) (left : List ℕ) (acts : List Action) (c : Course) → (was ≡ true → c.up_to_date ≡ false) → (was || leaves_any (Tick now left acts)) ≡ true → (leaving left c).1.up_to_date ≡ false
+marked_leaving : (was : Bool) (now : ℕ) (left : List ℕ) (acts : List Action) (c : Course) → (was ≡ true → c.up_to_date ≡ false) → (was || any_left left) ≡ true → (leaving left c).1.up_to_date ≡ false
 marked_leaving true now [] acts c marked so = marked refl
 marked_leaving false now [] acts c marked so = absurd (false≢true so)
 marked_leaving was now (table ∷ tables) acts c marked so = up_finishing false (without_tables (table ∷ tables) c) refl
 
-marked_still : (was : Bool) (now : ℕ) (left : List ℕ) (acts : List Action) (s e : StandingState) → left ≡ [] → e ≡ s → IsMarked was s → IsMarked (was || leaves_any (Tick now left acts)) e
+marked_still : (was : Bool) (now : ℕ) (left : List ℕ) (acts : List Action) (s e : StandingState) → left ≡ [] → e ≡ s → IsMarked was s → IsMarked (was || any_left left) e
 marked_still was now left acts s e none same marked = λ so. subst IsPartial (sym same) (marked (left_before was now left acts none so))
 
-marked_ticks : (was silent : Bool) (phase : Phase) (s e : StandingState) (now : ℕ) (left : List ℕ) (acts : List Action) → s.session.phase ≡ phase → IsMarked was s → TicksIn silent phase s now left acts e → IsMarked (was || leaves_any (Tick now left acts)) e
+marked_ticks : (was silent : Bool) (phase : Phase) (s e : StandingState) (now : ℕ) (left : List ℕ) (acts : List Action) → s.session.phase ≡ phase → IsMarked was s → TicksIn silent phase s now left acts e → IsMarked (was || any_left left) e
 marked_ticks was true phase s e now left acts stands marked (leaves, is, session, paces) = λ so. (
   ap (λ (p : Pace). p.left) paces ∙ (marked (left_before was now left acts leaves so)).0,
   up_at false e.session _ session tt,
@@ -303,29 +333,25 @@ or_false : (b : Bool) → (b || false) ≡ b
 or_false true = refl
 or_false false = refl
 
-marked_at : (was : Bool) (now : ℕ) (event : Event) (acts : List Action) (s e : StandingState) → IsMarked was s → Stands s now event acts e → IsMarked (was || leaves_any (At now event acts)) e
-marked_at was now event acts s e marked stands = λ so.
+marked_at : (was : Bool) (now : ℕ) (event : Event) (acts : List Action) (s e : StandingState) → is_tick event ≡ false → IsMarked was s → Stands s now event acts e → IsMarked (was || false) e
+marked_at was now event acts s e other marked stands = λ so.
     let before : IsPartial s = marked (sym (or_false was) ∙ so) in
-    (left_stands event s e now acts stands ∙ before.0, up_stands false event s e now acts before.1 stands)
+    (left_stands event s e now acts other stands ∙ before.0, up_stands false event s e now acts other before.0 before.1 stands)
 
--- if a table was left, this node can't become up to date
-up_caught : (left : Bool) (phase : Phase) → left ≡ true → IsUp false phase → IsUp false (changed (caught_up_in left) phase)
-up_caught false phase so up = absurd (false≢true so)
-up_caught true (phases.New hello c) so up = ap (λ (b : Bool). b || false) up
-up_caught true (phases.Hello greeter bytes c) so up = ap (λ (b : Bool). b || false) up
-up_caught true (phases.Open c) so up = ap (λ (b : Bool). b || false) up
-up_caught true phases.Ended so up = tt
-
-marked_caught : (was : Bool) (s e : StandingState) → IsMarked was s → e ≡ caught_up s → IsMarked (was || false) e
-marked_caught was s e marked caught = λ so.
-    let before : IsPartial s = marked (sym (or_false was) ∙ so) in
-    subst IsPartial (sym caught) (before.0, up_caught s.pace.left s.session.phase before.0 before.1)
+marked_tick : (was : Bool) (now : ℕ) (acts : List Action) (s e : StandingState) → IsMarked was s → Stands s now events.Tick acts e → IsMarked (was || list_any is_reopen acts) e
+marked_tick was now acts s e marked (asked, (left, rest, ticks, is)) =
+    subst (λ (b : Bool). IsMarked (was || b) e) (sym (any_reopened _ s.session.phase s e now left rest acts ticks is))
+    (marked_ticks was _ s.session.phase s e now left rest refl marked ticks)
 
 marked_happens : (was : Bool) (one : Happening) (s e : StandingState) → IsMarked was s → Happens s one e → IsMarked (was || leaves_any one) e
-marked_happens was (At now event acts) s e marked stands = marked_at was now event acts s e marked stands
-marked_happens was (Tick now left acts) s e marked (asked, ticks) = marked_ticks was _ s.session.phase s e now left acts refl marked ticks
-marked_happens was (Ask now) s e marked sent = λ so. subst IsPartial (sym sent) (marked (sym (or_false was) ∙ so))
-marked_happens was CatchUp s e marked caught = marked_caught was s e marked caught
+marked_happens was one s e marked happens = elim (tick_or_not one.event) [
+  | inl is ↦
+      subst (λ (event : Event). IsMarked (was || (is_tick event && list_any is_reopen one.acts)) e) (sym is)
+      (marked_tick was one.now one.acts s e marked (subst (λ (event : Event). Stands s one.now event one.acts e) is happens))
+  | inr other ↦
+      subst (λ (b : Bool). IsMarked (was || (b && list_any is_reopen one.acts)) e) (sym other)
+      (marked_at was one.now one.event one.acts s e other marked happens)
+]
 
 or_assoc : (a b c : Bool) → ((a || b) || c) ≡ (a || (b || c))
 or_assoc true b c = refl
@@ -413,19 +439,6 @@ partial_writes (phases.New hello c) s e now known acts writes = absurd writes
 partial_writes (phases.Hello greeter bytes c) s e now known acts writes = absurd writes
 partial_writes phases.Ended s e now known acts writes = absurd writes
 
-partial_stands : (event : Event) (s e : StandingState) (now : ℕ) (acts : List Action) → IsUp false s.session.phase → Stands s now event acts e → list_any is_finish acts ≡ false
-partial_stands (events.Bytes bytes) s e now acts up (goes, paces) = none_finished acts (endless_in s.session.phase s.session (events.Bytes bytes) acts e.session tt goes)
-partial_stands events.Turn s e now acts up turns = partial_turn s.session.phase s e now acts refl up turns
-partial_stands (events.Nothing table) s e now acts up (goes, paces) = partial_answer s.session.phase s.session table acts e.session up goes
-partial_stands (events.Written known) s e now acts up writes = partial_writes s.session.phase s e now known acts writes
-partial_stands (events.Refused table) s e now acts up (goes, paces) = none_finished acts (endless_in s.session.phase s.session _ acts e.session (endless_refusal (is_ahead table s.pace.progress) table) goes)
-partial_stands (events.Copied table batch) s e now acts up (goes, paces) = none_finished acts (endless_in s.session.phase s.session (events.Copied table batch) acts e.session tt goes)
-partial_stands events.Opened s e now acts up (goes, paces) = none_finished acts (endless_in s.session.phase s.session events.Opened acts e.session tt goes)
-partial_stands events.End s e now acts up (goes, paces) = none_finished acts (endless_in s.session.phase s.session events.End acts e.session tt goes)
-partial_stands events.ReadFault s e now acts up (goes, paces) = none_finished acts (endless_in s.session.phase s.session events.ReadFault acts e.session tt goes)
-partial_stands events.WriteFault s e now acts up (goes, paces) = none_finished acts (endless_in s.session.phase s.session events.WriteFault acts e.session tt goes)
-partial_stands (events.Settled table settled) s e now acts up (goes, paces) = none_finished acts (endless_in s.session.phase s.session (events.Settled table settled) acts e.session tt goes)
-
 beats_finish_none : (b : Bool) → list_any is_finish (heartbeats b) ≡ false
 beats_finish_none true = refl
 beats_finish_none false = refl
@@ -443,18 +456,47 @@ partial_ticks false (phases.New hello c) s e now left acts (leaves, is, same) = 
 partial_ticks false (phases.Hello greeter bytes c) s e now left acts (leaves, is, same) = ap (list_any is_finish) is
 partial_ticks false phases.Ended s e now left acts (leaves, is, same) = ap (list_any is_finish) is
 
+reopening_finishes : (left : List ℕ) → list_any is_finish (reopening left) ≡ false
+reopening_finishes left = none_reopening is_finish (λ table. refl) left
+
+partial_stands : (event : Event) (s e : StandingState) (now : ℕ) (acts : List Action) → IsUp false s.session.phase → Stands s now event acts e → list_any is_finish acts ≡ false
+partial_stands (events.Bytes bytes) s e now acts up (goes, paces) = none_finished acts (endless_in s.session.phase s.session (events.Bytes bytes) acts e.session tt goes)
+partial_stands events.Turn s e now acts up turns = partial_turn s.session.phase s e now acts refl up turns
+partial_stands (events.Nothing table) s e now acts up (goes, paces) = partial_answer s.session.phase s.session table acts e.session up goes
+partial_stands (events.Written known) s e now acts up writes = partial_writes s.session.phase s e now known acts writes
+partial_stands (events.Refused table) s e now acts up (goes, paces) = none_finished acts (endless_in s.session.phase s.session _ acts e.session (endless_refusal (is_ahead table s.pace.progress) table) goes)
+partial_stands (events.Copied table batch) s e now acts up (goes, paces) = none_finished acts (endless_in s.session.phase s.session (events.Copied table batch) acts e.session tt goes)
+partial_stands events.Opened s e now acts up (goes, paces) = none_finished acts (endless_in s.session.phase s.session events.Opened acts e.session tt goes)
+partial_stands events.Ask s e now acts up (goes, paces) = none_finished acts (endless_in s.session.phase s.session events.Ask acts e.session tt goes)
+partial_stands events.CaughtUp s e now acts up (goes, paces) = none_finished acts (endless_in s.session.phase s.session _ acts e.session (endless_word s.pace.left) goes)
+partial_stands events.Tick s e now acts up (asked, (left, rest, ticks, is)) =
+    ap (list_any is_finish) is ∙ (list_any-append is_finish (reopening left) rest ∙ neither _ _ (reopening_finishes left) (partial_ticks _ s.session.phase s e now left rest ticks))
+partial_stands events.End s e now acts up (goes, paces) = none_finished acts (endless_in s.session.phase s.session events.End acts e.session tt goes)
+partial_stands events.ReadFault s e now acts up (goes, paces) = none_finished acts (endless_in s.session.phase s.session events.ReadFault acts e.session tt goes)
+partial_stands events.WriteFault s e now acts up (goes, paces) = none_finished acts (endless_in s.session.phase s.session events.WriteFault acts e.session tt goes)
+partial_stands (events.Settled table settled) s e now acts up (goes, paces) = none_finished acts (endless_in s.session.phase s.session (events.Settled table settled) acts e.session tt goes)
+
 -- ---- the law
 
-none_left_by : (was : Bool) (one : Happening) (s e : StandingState) → IsMarked was s → Happens s one e → list_any is_finish (acts_of one) ≡ true → (was || (leaves_any one || false)) ≡ false
-none_left_by was (Tick now left acts) s e marked (asked, ticks) finishes =
-    absurd (false≢true (sym (partial_ticks _ s.session.phase s e now left acts ticks) ∙ finishes))
-none_left_by was (Ask now) s e marked sent finishes = absurd (false≢true finishes)
-none_left_by was CatchUp s e marked caught finishes = absurd (false≢true finishes)
-none_left_by false (At now event acts) s e marked stands finishes = refl
-none_left_by true (At now event acts) s e marked stands finishes =
-    absurd (false≢true (sym (partial_stands event s e now acts (marked refl).1 stands) ∙ finishes))
+unfinished : {X : Type 0} (acts : List Action) → list_any is_finish acts ≡ false → list_any is_finish acts ≡ true → X
+unfinished acts none finishes = absurd (false≢true (sym none ∙ finishes))
 
-pub finished_leaves_none : (roster : List Definition) (begun s e : StandingState) (steps : List Happening) (one : Happening) → BeginsToStay roster begun → Lasts begun steps s → Happens s one e → list_any is_finish (acts_of one) ≡ true → list_any leaves_any (steps ++ (one ∷ [])) ≡ false
+none_left_in : (was : Bool) (one : Happening) (s e : StandingState) → is_tick one.event ≡ false → IsMarked was s → Happens s one e → list_any is_finish one.acts ≡ true → (was || (leaves_any one || false)) ≡ false
+none_left_in false one s e other marked happens finishes = rw other refl
+none_left_in true one s e other marked happens finishes =
+    unfinished one.acts (partial_stands one.event s e one.now one.acts (marked refl).1 happens) finishes
+
+tick_finishes : (s e : StandingState) (now : ℕ) (acts : List Action) → Stands s now events.Tick acts e → list_any is_finish acts ≡ false
+tick_finishes s e now acts (asked, (left, rest, ticks, is)) =
+    ap (list_any is_finish) is ∙ (list_any-append is_finish (reopening left) rest ∙ neither _ _ (reopening_finishes left) (partial_ticks _ s.session.phase s e now left rest ticks))
+
+none_left_by : (was : Bool) (one : Happening) (s e : StandingState) → IsMarked was s → Happens s one e → list_any is_finish one.acts ≡ true → (was || (leaves_any one || false)) ≡ false
+none_left_by was one s e marked happens finishes = elim (tick_or_not one.event) [
+  | inl is ↦ unfinished one.acts (tick_finishes s e one.now one.acts (subst (λ (event : Event). Stands s one.now event one.acts e) is happens)) finishes
+  | inr other ↦ none_left_in was one s e other marked happens finishes
+]
+
+pub finished_leaves_none : (roster : List Definition) (begun s e : StandingState) (steps : List Happening) (one : Happening) → BeginsToStay roster begun → Lasts begun steps s → Happens s one e → list_any is_finish one.acts ≡ true → list_any leaves_any (steps ++ (one ∷ [])) ≡ false
 finished_leaves_none roster begun s e steps one begins lasts happens finishes =
     let marked : IsMarked (false || list_any leaves_any steps) s = marked_lasts steps false begun s (λ so. absurd (false≢true so)) lasts in
     list_any-append leaves_any steps (one ∷ [])

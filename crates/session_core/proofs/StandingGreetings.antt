@@ -1,12 +1,11 @@
 -- What holds of the version, the confirmation and the fault of a session that stays, as it does of a plain one.
-use Rattle.std.proofs.Common.{◌≡◌, ◌⊎◌, ℕ, Bool, true, false, ◌||◌, List, [], ◌∷◌, ◌++◌, Some, None, Option, refl, sym, ap, ◌∙◌, subst, inl, inr}
+use Rattle.std.proofs.Common.{◌≡◌, ◌⊎◌, ℕ, Bool, false, ◌||◌, List, [], ◌∷◌, ◌++◌, None, refl, sym, ap, ◌∙◌, subst, inl, inr}
 use Rattle.std.proofs.lemmas.List.{append-nil}
 use Rattle.table_types.specs.Tables.{Definition}
 use Rattle.peers_hello.specs.declared.hello.Hello.{Hello}
 use Rattle.peers_hello.specs.Hellos.{answer_of}
 use Rattle.peers_hello.specs.Meetings.{Meeting, Waits, by_answer, by_status}
 use Rattle.peers_hello.specs.Statuses.{status_of}
-use Rattle.session_core.specs.declared.action.Action.{Action}
 use Rattle.session_core.specs.declared.event.Event.{Event}
 use Rattle.session_core.specs.declared.event.Event.TheVariants as events
 use Rattle.session_core.specs.declared.phase.Greeter.{Greeter}
@@ -19,29 +18,26 @@ use Rattle.session_core.specs.Sessions.{SessionState, GoesIn, accepting, connect
 use Rattle.session_core.specs.Runs.{falls_back_in, version_in, was_confirmed}
 use Rattle.session_core.specs.Hearing.{bytes_of, heard_in}
 use Rattle.session_core.specs.Standing.{StandingState, changed, stays_from}
-use Rattle.session_core.specs.StandingRuns.{Happening, At, Tick, Ask, CatchUp, Happens, Lasts, BeginsToStay, acts_of, handed}
+use Rattle.session_core.specs.Happenings.{Happening, handed}
+use Rattle.session_core.proofs.MachineRuns.{Lasts, BeginsToStay}
 use Rattle.session_core.proofs.ConfirmedLaws.{IsSaid, begins_unsaid, or_group, or_none, said_in}
 use Rattle.session_core.proofs.FaultLaws.{IsFaultless, begins_unfaulted, ended_stays, unfaulted_in}
 use Rattle.session_core.proofs.GreetedHoweverCut.{meeting}
 use Rattle.session_core.proofs.HelloDecides.{After, Decides, IsDecided, IsOpen, accepted_so, connected_so, cut_off, decides_in_hello, decides_in_new, open_at, stays_in}
-use Rattle.session_core.proofs.StandingMoves.{IsOnward, IsSilent, Moves, asks_silent, catches_up_silent, happens_moves, heard_by, heard_more, ticks_silent}
+use Rattle.session_core.proofs.StandingMoves.{IsOnward, Moves, happens_moves, heard_by, heard_more}
 
 -- ---- confirmations
 
-said_moves : (s : SessionState) (one : Happening) (e : SessionState) → Moves s one e → IsSaid s (acts_of one) e
+said_moves : (s : SessionState) (one : Happening) (e : SessionState) → Moves s one e → IsSaid s one.acts e
 said_moves s one e (inl (event, acts, goes, same, heard)) = said_in s.phase s event acts e goes ∙ ap (λ (b : Bool). s.confirmed || b) (sym same)
 said_moves s one e (inr (alike, onward, quiet, heard)) = alike.1 ∙ (or_none s.confirmed ∙ ap (λ (b : Bool). s.confirmed || b) (sym quiet))
 
 said_lasts : (steps : List Happening) (s e : StandingState) → Lasts s steps e → e.session.confirmed ≡ (s.session.confirmed || was_confirmed (handed steps))
 said_lasts [] s e here = ap (λ (x : StandingState). x.session.confirmed) here ∙ or_none s.session.confirmed
-said_lasts (At now event acts ∷ steps) s e (mid, happens, lasts) =
+said_lasts (one ∷ steps) s e (mid, happens, lasts) =
     said_lasts steps mid e lasts
-    ∙ (ap (λ (b : Bool). b || was_confirmed (handed steps)) (said_moves s.session (At now event acts) mid.session (happens_moves (At now event acts) s mid happens))
-    ∙ or_group s.session.confirmed (confirms acts) (was_confirmed (handed steps)))
-said_lasts (Tick now left acts ∷ steps) s e (mid, happens, lasts) =
-    said_lasts steps mid e lasts ∙ ap (λ (b : Bool). b || was_confirmed (handed steps)) (ticks_silent s mid now left acts happens).0.1
-said_lasts (Ask now ∷ steps) s e (mid, happens, lasts) = said_lasts steps mid e lasts ∙ ap (λ (b : Bool). b || was_confirmed (handed steps)) (asks_silent s mid now happens).0.1
-said_lasts (CatchUp ∷ steps) s e (mid, happens, lasts) = said_lasts steps mid e lasts ∙ ap (λ (b : Bool). b || was_confirmed (handed steps)) (catches_up_silent s mid happens).0.1
+    ∙ (ap (λ (b : Bool). b || was_confirmed (handed steps)) (said_moves s.session one mid.session (happens_moves one s mid happens))
+    ∙ or_group s.session.confirmed (confirms one.acts) (was_confirmed (handed steps)))
 
 pub sent_while_staying : (roster : List Definition) (begun s : StandingState) (steps : List Happening) → BeginsToStay roster begun → Lasts begun steps s → s.session.confirmed ≡ was_confirmed (handed steps)
 sent_while_staying roster begun s steps (first, now, begins, is) lasts =
@@ -132,7 +128,7 @@ decides (one ∷ steps) s e greeter bytes c stands waits undecided (mid, happens
         subst (λ (l : List ℕ). Decides greeter (meeting greeter (bytes ++ l)) e.session) (heard_then one steps event heard)
         (decides_in_hello greeter bytes (heard_in (handed steps)) c s.session mid.session e.session event acts waits undecided
         (subst (λ (p : Phase). GoesIn p s.session event acts mid.session) stands goes) (after_lasts steps mid e lasts)
-        (λ more stands_so waits_so so. again more c stands_so waits_so so))
+        (λ more course stands_so waits_so so. again more course stands_so waits_so so))
     by again (inr (alike, inl over, quiet, heard)) =
         subst (λ (l : List ℕ). Decides greeter (meeting greeter (bytes ++ l)) e.session) (heard_then one steps events.Turn heard)
         (cut_off greeter bytes (heard_in (handed steps)) mid.session e.session waits over (alike.2 ∙ undecided.0, alike.3 ∙ undecided.1) (after_lasts steps mid e lasts))
@@ -158,7 +154,7 @@ decides_new (one ∷ steps) s e hello c stands undecided (mid, happens, lasts) =
         (decides_in_new hello (heard_in (handed steps)) c s.session mid.session e.session event acts undecided
         (subst (λ (p : Phase). GoesIn p s.session event acts mid.session) stands goes) (after_lasts steps mid e lasts)
         (λ stands_so so. decides steps mid e greeter [] c stands_so refl so lasts)
-        (λ stands_so so. again c stands_so so))
+        (λ course stands_so so. again course stands_so so))
     by again (inr (alike, inl over, quiet, heard)) =
         subst (λ (l : List ℕ). Decides greeter (meeting greeter l) e.session) (heard_then one steps events.Turn heard)
         (cut_off greeter [] (heard_in (handed steps)) mid.session e.session refl over (alike.2 ∙ undecided.0, alike.3 ∙ undecided.1) (after_lasts steps mid e lasts))

@@ -11,26 +11,24 @@ use Rattle.session_core.specs.declared.pace.Task.{Task}
 use Rattle.session_core.specs.declared.pace.Task.TheVariants as tasks
 use Rattle.session_core.specs.Phases.{Phase}
 use Rattle.session_core.specs.Phases as phases
-use Rattle.session_core.specs.Shares.{all_quiet, is_out}
+use Rattle.session_core.specs.Shares.{is_out}
 use Rattle.session_core.specs.Actions.{confirms, is_confirmation, reopens}
 use Rattle.session_core.specs.Courses.{Course, acknowledged, ack_received, teaching_anew}
 use Rattle.session_core.specs.Sessions.{SessionState, Goes}
 use Rattle.session_core.specs.Hearing.{bytes_of, heard_in}
 use Rattle.session_core.specs.Paces.{has_passed, heartbeat_time, inferred, is_ahead, silence_time}
-use Rattle.session_core.specs.Standing.{StandingState, changed, caught_up_in, finished_if, finishing, begun_resync, forgetting, heartbeats, leaving, without_tables, Does, task_at, TakesTurn, Writes, answer_of_refusal, Stands, TicksIn, Ticks}
-use Rattle.session_core.specs.StandingRuns.{Happening, At, Tick, Ask, CatchUp, Happens, acts_of, handed}
+use Rattle.session_core.specs.Standing.{StandingState, changed, finished_if, finishing, begun_resync, forgetting, heartbeats, leaving, without_tables, Does, task_at, TakesTurn, Writes, answer_of_refusal, Stands, TicksIn, word_of, reopening}
+use Rattle.session_core.specs.Happenings.{Happening, handed}
+use Rattle.session_core.proofs.MachineRuns.{Ticks, Happens, at}
+use Rattle.session_core.proofs.TickGives.{after_reopening}
 use Rattle.session_core.proofs.ConfirmedLaws.{finished_plain, reopens_plain}
 
 -- the bytes that it received
 abbrev pub heard_by : Happening → List ℕ
-heard_by (At now event acts) = bytes_of event
-heard_by one = []
+heard_by one = bytes_of one.event
 
 pub heard_more : (one : Happening) (steps : List Happening) → heard_in (handed (one ∷ steps)) ≡ heard_by one ++ heard_in (handed steps)
-heard_more (At now event acts) steps = refl
-heard_more (Tick now left acts) steps = refl
-heard_more (Ask now) steps = refl
-heard_more CatchUp steps = refl
+heard_more one steps = refl
 
 -- alike but for the phase and for what is known of the remote peer
 abbrev pub IsAlike : SessionState → SessionState → Type 0
@@ -42,11 +40,11 @@ IsOnward p q = (q ≡ phases.Ended) ⊎ ((change : Course → Course) × (q ≡ 
 
 -- the machine makes a step, which receives the same and confirms as much
 abbrev pub IsStep : SessionState → Happening → SessionState → Type 0
-IsStep s one e = (event : Event) × (acts : List Action) × Goes s event acts e × (confirms (acts_of one) ≡ confirms acts) × (heard_by one ≡ bytes_of event)
+IsStep s one e = (event : Event) × (acts : List Action) × Goes s event acts e × (confirms one.acts ≡ confirms acts) × (heard_by one ≡ bytes_of event)
 
 -- nothing is received, and no resync confirmed
 abbrev pub IsSilent : SessionState → Happening → SessionState → Type 0
-IsSilent s one e = IsAlike s e × IsOnward s.phase e.phase × (confirms (acts_of one) ≡ false) × (heard_by one ≡ [])
+IsSilent s one e = IsAlike s e × IsOnward s.phase e.phase × (confirms one.acts ≡ false) × (heard_by one ≡ [])
 
 abbrev pub Moves : SessionState → Happening → SessionState → Type 0
 Moves s one e = IsStep s one e ⊎ IsSilent s one e
@@ -98,7 +96,7 @@ ack_unconfirmed c None = refl
 
 -- ---- events
 
-does_moves : (task : Task) (s e : StandingState) (c : Course) (now : ℕ) (acts : List Action) → s.session.phase ≡ phases.Open c → Does task s c now acts e → Moves s.session (At now events.Turn acts) e.session
+does_moves : (task : Task) (s e : StandingState) (c : Course) (now : ℕ) (acts : List Action) → s.session.phase ≡ phases.Open c → Does task s c now acts e → Moves s.session (at now events.Turn acts) e.session
 does_moves tasks.Copy s e c now acts stands (goes, paces) = inl (events.Turn, acts, goes, refl, refl)
 does_moves tasks.Rest s e c now acts stands (due, is, same) =
     let session : e.session ≡ s.session = ap (λ (x : StandingState). x.session) same in
@@ -110,13 +108,13 @@ does_moves tasks.Begin s e c now acts stands (due, is, session, paces) = inr (
   refl,
 )
 
-turn_moves : (phase : Phase) (s e : StandingState) (now : ℕ) (acts : List Action) → s.session.phase ≡ phase → TakesTurn phase s now acts e → Moves s.session (At now events.Turn acts) e.session
+turn_moves : (phase : Phase) (s e : StandingState) (now : ℕ) (acts : List Action) → s.session.phase ≡ phase → TakesTurn phase s now acts e → Moves s.session (at now events.Turn acts) e.session
 turn_moves (phases.Open c) s e now acts stands does = does_moves (task_at now s.pace c) s e c now acts stands does
 turn_moves (phases.New hello c) s e now acts stands (goes, paces) = inl (events.Turn, acts, goes, refl, refl)
 turn_moves (phases.Hello greeter bytes c) s e now acts stands (goes, paces) = inl (events.Turn, acts, goes, refl, refl)
 turn_moves phases.Ended s e now acts stands (goes, paces) = inl (events.Turn, acts, goes, refl, refl)
 
-writes_moves : (phase : Phase) (s e : StandingState) (now : ℕ) (known : KnownState) (acts : List Action) → s.session.phase ≡ phase → Writes phase s now known acts e → Moves s.session (At now (events.Written known) acts) e.session
+writes_moves : (phase : Phase) (s e : StandingState) (now : ℕ) (known : KnownState) (acts : List Action) → s.session.phase ≡ phase → Writes phase s now known acts e → Moves s.session (at now (events.Written known) acts) e.session
 writes_moves (phases.Open c) s e now known acts stands ((mid, answered, none, ends), is, paces) = inr (
   alike_at s.session e.session _ ends (refl, refl, refl, refl),
   onward_open s.session.phase e.session.phase c mid stands (ap (λ (x : SessionState). x.phase) ends),
@@ -127,35 +125,20 @@ writes_moves (phases.New hello c) s e now known acts stands writes = absurd writ
 writes_moves (phases.Hello greeter bytes c) s e now known acts stands writes = absurd writes
 writes_moves phases.Ended s e now known acts stands writes = absurd writes
 
-refused_moves : (b : Bool) (s e : SessionState) (now table : ℕ) (acts : List Action) → Goes s (answer_of_refusal b table) acts e → Moves s (At now (events.Refused table) acts) e
+refused_moves : (b : Bool) (s e : SessionState) (now table : ℕ) (acts : List Action) → Goes s (answer_of_refusal b table) acts e → Moves s (at now (events.Refused table) acts) e
 refused_moves true s e now table acts goes = inl (events.Refused table, acts, goes, refl, refl)
 refused_moves false s e now table acts goes = inl (events.Settled table settles.Older, acts, goes, refl, refl)
-
-stands_moves : (event : Event) (s e : StandingState) (now : ℕ) (acts : List Action) → Stands s now event acts e → Moves s.session (At now event acts) e.session
-stands_moves (events.Bytes bytes) s e now acts (goes, paces) = inl (events.Bytes bytes, acts, goes, refl, refl)
-stands_moves events.Turn s e now acts turns = turn_moves s.session.phase s e now acts refl turns
-stands_moves (events.Copied table batch) s e now acts (goes, paces) = inl (events.Copied table batch, acts, goes, refl, refl)
-stands_moves (events.Written known) s e now acts writes = writes_moves s.session.phase s e now known acts refl writes
-stands_moves (events.Refused table) s e now acts (goes, paces) = refused_moves (is_ahead table s.pace.progress) s.session e.session now table acts goes
-stands_moves events.Opened s e now acts (goes, paces) = inl (events.Opened, acts, goes, refl, refl)
-stands_moves events.End s e now acts (goes, paces) = inl (events.End, acts, goes, refl, refl)
-stands_moves events.ReadFault s e now acts (goes, paces) = inl (events.ReadFault, acts, goes, refl, refl)
-stands_moves events.WriteFault s e now acts (goes, paces) = inl (events.WriteFault, acts, goes, refl, refl)
-stands_moves (events.Nothing table) s e now acts (goes, paces) = inl (events.Nothing table, acts, goes, refl, refl)
-stands_moves (events.Settled table settled) s e now acts (goes, paces) = inl (events.Settled table settled, acts, goes, refl, refl)
-
--- ---- all else
 
 forgetting_alike : (left : List ℕ) (s : SessionState) → IsAlike s (forgetting left s)
 forgetting_alike [] s = (refl, refl, refl, refl)
 forgetting_alike (table ∷ tables) s = (refl, refl, refl, refl)
 
-same_silent : (s e : StandingState) (now : ℕ) (left : List ℕ) (acts : List Action) → acts ≡ [] → e ≡ s → IsSilent s.session (Tick now left acts) e.session
+same_silent : (s e : StandingState) (now : ℕ) (left : List ℕ) (acts : List Action) → acts ≡ [] → e ≡ s → IsSilent s.session (at now events.Tick acts) e.session
 same_silent s e now left acts none same =
     let session : e.session ≡ s.session = ap (λ (x : StandingState). x.session) same in
     (alike_at s.session e.session s.session session (refl, refl, refl, refl), onward_same s.session.phase e.session.phase (ap (λ (x : SessionState). x.phase) session), unconfirmed acts [] none refl, refl)
 
-tick_silent : (b : Bool) (phase : Phase) (s e : StandingState) (now : ℕ) (left : List ℕ) (acts : List Action) → s.session.phase ≡ phase → TicksIn b phase s now left acts e → IsSilent s.session (Tick now left acts) e.session
+tick_silent : (b : Bool) (phase : Phase) (s e : StandingState) (now : ℕ) (left : List ℕ) (acts : List Action) → s.session.phase ≡ phase → TicksIn b phase s now left acts e → IsSilent s.session (at now events.Tick acts) e.session
 tick_silent true phase s e now left acts stands (none, is, ends, paces) =
     (alike_at s.session e.session _ ends (refl, refl, refl, refl), inl (ap (λ (x : SessionState). x.phase) ends), unconfirmed acts (actions.Close ∷ []) is refl, refl)
 tick_silent false (phases.Open c) s e now left acts stands (leaves, is, goes, paces) = (
@@ -168,20 +151,30 @@ tick_silent false (phases.New hello c) s e now left acts stands (none, is, same)
 tick_silent false (phases.Hello greeter bytes c) s e now left acts stands (none, is, same) = same_silent s e now left acts is same
 tick_silent false phases.Ended s e now left acts stands (none, is, same) = same_silent s e now left acts is same
 
-pub ticks_silent : (s e : StandingState) (now : ℕ) (left : List ℕ) (acts : List Action) → Ticks s now left acts e → IsSilent s.session (Tick now left acts) e.session
-ticks_silent s e now left acts (asked, ticks) = tick_silent (has_passed silence_time s.pace.heard now) s.session.phase s e now left acts refl ticks
+ticks_silent : (s e : StandingState) (now : ℕ) (left : List ℕ) (rest acts : List Action) → Ticks s now left rest e → acts ≡ reopening left ++ rest → IsSilent s.session (at now events.Tick acts) e.session
+ticks_silent s e now left rest acts (asked, ticks) is =
+    let one = tick_silent (has_passed silence_time s.pace.heard now) s.session.phase s e now left rest refl ticks in
+    (one.0, one.1, ap confirms is ∙ (after_reopening is_confirmation (λ table. refl) left rest ∙ one.2), refl)
 
-pub asks_silent : (s e : StandingState) (now : ℕ) → Happens s (Ask now) e → IsSilent s.session (Ask now) e.session
-asks_silent s e now is =
-    let session : e.session ≡ s.session = ap (λ (x : StandingState). x.session) is in
-    (alike_at s.session e.session s.session session (refl, refl, refl, refl), onward_same s.session.phase e.session.phase (ap (λ (x : SessionState). x.phase) session), refl, refl)
+word_moves : (b : Bool) (s e : SessionState) (now : ℕ) (acts : List Action) → Goes s (word_of b) acts e → Moves s (at now events.CaughtUp acts) e
+word_moves true s e now acts goes = inl (events.Tick, acts, goes, refl, refl)
+word_moves false s e now acts goes = inl (events.CaughtUp, acts, goes, refl, refl)
 
-pub catches_up_silent : (s e : StandingState) → Happens s CatchUp e → IsSilent s.session CatchUp e.session
-catches_up_silent s e is =
-    (alike_at s.session e.session _ (ap (λ (x : StandingState). x.session) is) (refl, refl, refl, refl), inr (caught_up_in s.pace.left, ap (λ (x : StandingState). x.session.phase) is), refl, refl)
+stands_moves : (event : Event) (s e : StandingState) (now : ℕ) (acts : List Action) → Stands s now event acts e → Moves s.session (at now event acts) e.session
+stands_moves (events.Bytes bytes) s e now acts (goes, paces) = inl (events.Bytes bytes, acts, goes, refl, refl)
+stands_moves events.Turn s e now acts turns = turn_moves s.session.phase s e now acts refl turns
+stands_moves (events.Copied table batch) s e now acts (goes, paces) = inl (events.Copied table batch, acts, goes, refl, refl)
+stands_moves (events.Written known) s e now acts writes = writes_moves s.session.phase s e now known acts refl writes
+stands_moves (events.Refused table) s e now acts (goes, paces) = refused_moves (is_ahead table s.pace.progress) s.session e.session now table acts goes
+stands_moves events.Opened s e now acts (goes, paces) = inl (events.Opened, acts, goes, refl, refl)
+stands_moves events.Ask s e now acts (goes, paces) = inl (events.Ask, acts, goes, refl, refl)
+stands_moves events.CaughtUp s e now acts (goes, paces) = word_moves s.pace.left s.session e.session now acts goes
+stands_moves events.Tick s e now acts (asked, (left, rest, ticks, is)) = inr (ticks_silent s e now left rest acts (asked, ticks) is)
+stands_moves events.End s e now acts (goes, paces) = inl (events.End, acts, goes, refl, refl)
+stands_moves events.ReadFault s e now acts (goes, paces) = inl (events.ReadFault, acts, goes, refl, refl)
+stands_moves events.WriteFault s e now acts (goes, paces) = inl (events.WriteFault, acts, goes, refl, refl)
+stands_moves (events.Nothing table) s e now acts (goes, paces) = inl (events.Nothing table, acts, goes, refl, refl)
+stands_moves (events.Settled table settled) s e now acts (goes, paces) = inl (events.Settled table settled, acts, goes, refl, refl)
 
 pub happens_moves : (one : Happening) (s e : StandingState) → Happens s one e → Moves s.session one e.session
-happens_moves (At now event acts) s e stands = stands_moves event s e now acts stands
-happens_moves (Tick now left acts) s e ticks = inr (ticks_silent s e now left acts ticks)
-happens_moves (Ask now) s e is = inr (asks_silent s e now is)
-happens_moves CatchUp s e is = inr (catches_up_silent s e is)
+happens_moves one s e happens = stands_moves one.event s e one.now one.acts happens

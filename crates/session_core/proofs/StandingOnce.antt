@@ -16,8 +16,9 @@ use Rattle.session_core.specs.Phases as phases
 use Rattle.session_core.specs.Shares.{is_out}
 use Rattle.session_core.specs.Courses.{Course, acknowledged, ack_received, is_due}
 use Rattle.session_core.specs.Sessions.{SessionState, going, is_asked}
-use Rattle.session_core.specs.Paces.{Pace, has_passed, heartbeat_time, silence_time, renewed, inferred, is_ahead, noted, copied_in, last_number}
-use Rattle.session_core.specs.Standing.{StandingState, is_send, paced, HandsOn, Does, task_at, TakesTurn, Writes, answer_of_refusal, Stands, leaving, heartbeats, forgetting, any_left, TicksIn, Ticks}
+use Rattle.session_core.specs.Paces.{Pace, has_passed, heartbeat_time, silence_time, renewed, inferred, is_ahead, noted, copied_in, last_number, left_in}
+use Rattle.session_core.specs.Standing.{StandingState, is_send, paced, HandsOn, Does, task_at, TakesTurn, Writes, answer_of_refusal, Stands, leaving, heartbeats, forgetting, any_left, word_of, reopening, TicksIn}
+use Rattle.session_core.proofs.TickGives.{asked_word}
 use Rattle.session_core.proofs.StepIsUnique.{goes_once}
 use Rattle.session_core.proofs.AskedLaws.{asked_where_goes}
 
@@ -79,24 +80,6 @@ once_writes (phases.New hello c) s e end now known acts others one other = absur
 once_writes (phases.Hello greeter bytes c) s e end now known acts others one other = absurd one
 once_writes phases.Ended s e end now known acts others one other = absurd one
 
-stands_event : (event : Event) (s e end : StandingState) (now : ℕ) (acts others : List Action) → Stands s now event acts e → Stands s now event others end → AreSame acts others e end
-stands_event (events.Bytes bytes) s e end now acts others one other = once_bytes bytes s e end now acts others one other
-stands_event events.Turn s e end now acts others one other = once_turn s.session.phase s e end now acts others one other
-stands_event (events.Copied table batch) s e end now acts others one other = once_copied table batch s e end now acts others one other
-stands_event (events.Written known) s e end now acts others one other = once_writes s.session.phase s e end now known acts others one other
-stands_event (events.Refused table) s e end now acts others one other = once_hands _ s e end now acts others one other
-stands_event events.Opened s e end now acts others one other = once_hands events.Opened s e end now acts others one other
-stands_event events.End s e end now acts others one other = once_hands events.End s e end now acts others one other
-stands_event events.ReadFault s e end now acts others one other = once_hands events.ReadFault s e end now acts others one other
-stands_event events.WriteFault s e end now acts others one other = once_hands events.WriteFault s e end now acts others one other
-stands_event (events.Nothing table) s e end now acts others one other = once_hands (events.Nothing table) s e end now acts others one other
-stands_event (events.Settled table settled) s e end now acts others one other = once_hands (events.Settled table settled) s e end now acts others one other
-
-pub stands_once : (s e end : StandingState) (now : ℕ) (event : Event) (acts others : List Action) → Stands s now event acts e → Stands s now event others end → (acts ≡ others) × (e ≡ end)
-stands_once s e end now event acts others one other = stands_event event s e end now acts others one other
-
--- ---- one tick
-
 ticks_in_once : (silent : Bool) (phase : Phase) (s e end : StandingState) (now : ℕ) (left tables : List ℕ) (acts others : List Action) → TicksIn silent phase s now left acts e → TicksIn silent phase s now tables others end → (left ≡ tables) × (acts ≡ others) × (e ≡ end)
 ticks_in_once true phase s e end now left tables acts others (leaves, is, session, paces) (leaves_too, is_too, session_too, paces_too) =
     (leaves ∙ sym leaves_too, is ∙ sym is_too, states e end (session ∙ sym session_too) (paces ∙ sym paces_too))
@@ -105,16 +88,33 @@ ticks_in_once false (phases.Open c) s e end now left tables acts others (leaves,
     let same_acts : acts ≡ others = is ∙ (ap (λ (xs : List ℕ). (leaving xs c).0 ++ heartbeats (has_passed heartbeat_time s.pace.sent now)) same ∙ sym is_too) in
     let same_session : e.session ≡ end.session = session ∙ (ap (λ (xs : List ℕ). going (forgetting xs s.session) (leaving xs c).1) same ∙ sym session_too) in
     let same_paces : e.pace ≡ end.pace =
-    paces ∙ (ap (λ (xs : List Action). record s.pace { sent = renewed (list_any is_send xs) now s.pace.sent; left = any_left left || s.pace.left }) same_acts
-    ∙ (ap (λ (xs : List ℕ). record s.pace { sent = renewed (list_any is_send others) now s.pace.sent; left = any_left xs || s.pace.left }) same ∙ sym paces_too)) in
+    paces ∙ (ap (λ (xs : List Action). record s.pace { sent = renewed (list_any is_send xs) now s.pace.sent; left = any_left left || s.pace.left; progress = left_in left s.pace.progress }) same_acts
+    ∙ (ap (λ (xs : List ℕ). record s.pace { sent = renewed (list_any is_send others) now s.pace.sent; left = any_left xs || s.pace.left; progress = left_in xs s.pace.progress }) same ∙ sym paces_too)) in
     (same, same_acts, states e end same_session same_paces)
 ticks_in_once false (phases.New hello c) s e end now left tables acts others (leaves, is, same) (leaves_too, is_too, same_too) = (leaves ∙ sym leaves_too, is ∙ sym is_too, same ∙ sym same_too)
 ticks_in_once false (phases.Hello greeter bytes c) s e end now left tables acts others (leaves, is, same) (leaves_too, is_too, same_too) = (leaves ∙ sym leaves_too, is ∙ sym is_too, same ∙ sym same_too)
 ticks_in_once false phases.Ended s e end now left tables acts others (leaves, is, same) (leaves_too, is_too, same_too) = (leaves ∙ sym leaves_too, is ∙ sym is_too, same ∙ sym same_too)
 
-pub ticks_once : (s e end : StandingState) (now : ℕ) (left tables : List ℕ) (acts others : List Action) → Ticks s now left acts e → Ticks s now tables others end → (left ≡ tables) × (acts ≡ others) × (e ≡ end)
-ticks_once s e end now left tables acts others (asked, one) (asked_too, other) =
-    ticks_in_once (has_passed silence_time s.pace.heard now) s.session.phase s e end now left tables acts others one other
+stands_event : (event : Event) (s e end : StandingState) (now : ℕ) (acts others : List Action) → Stands s now event acts e → Stands s now event others end → AreSame acts others e end
+stands_event (events.Bytes bytes) s e end now acts others one other = once_bytes bytes s e end now acts others one other
+stands_event events.Turn s e end now acts others one other = once_turn s.session.phase s e end now acts others one other
+stands_event (events.Copied table batch) s e end now acts others one other = once_copied table batch s e end now acts others one other
+stands_event (events.Written known) s e end now acts others one other = once_writes s.session.phase s e end now known acts others one other
+stands_event (events.Refused table) s e end now acts others one other = once_hands _ s e end now acts others one other
+stands_event events.Opened s e end now acts others one other = once_hands events.Opened s e end now acts others one other
+stands_event events.Ask s e end now acts others one other = once_hands events.Ask s e end now acts others one other
+stands_event events.CaughtUp s e end now acts others one other = once_hands _ s e end now acts others one other
+stands_event events.Tick s e end now acts others (asked, (left, rest, ticks, is)) (asked_too, (tables, rest_too, ticks_too, is_too)) =
+    let one = ticks_in_once (has_passed silence_time s.pace.heard now) s.session.phase s e end now left tables rest rest_too ticks ticks_too in
+    (is ∙ (ap (λ (xs : List ℕ). reopening xs ++ rest) one.0 ∙ (ap (λ (xs : List Action). reopening tables ++ xs) one.1 ∙ sym is_too)), one.2)
+stands_event events.End s e end now acts others one other = once_hands events.End s e end now acts others one other
+stands_event events.ReadFault s e end now acts others one other = once_hands events.ReadFault s e end now acts others one other
+stands_event events.WriteFault s e end now acts others one other = once_hands events.WriteFault s e end now acts others one other
+stands_event (events.Nothing table) s e end now acts others one other = once_hands (events.Nothing table) s e end now acts others one other
+stands_event (events.Settled table settled) s e end now acts others one other = once_hands (events.Settled table settled) s e end now acts others one other
+
+pub stands_once : (s e end : StandingState) (now : ℕ) (event : Event) (acts others : List Action) → Stands s now event acts e → Stands s now event others end → (acts ≡ others) × (e ≡ end)
+stands_once s e end now event acts others one other = stands_event event s e end now acts others one other
 
 -- ---- what may come
 
@@ -166,6 +166,9 @@ asked_event (events.Refused table) s e now acts (goes, paces) =
     sym (asked_refusal s.session.phase (is_ahead table s.pace.progress) table) ∙ asked_where_goes s.session e.session (answer_of_refusal (is_ahead table s.pace.progress) table) acts goes
 asked_event (events.Copied table batch) s e now acts (goes, paces) = asked_where_goes s.session e.session (events.Copied table batch) acts goes
 asked_event events.Opened s e now acts (goes, paces) = asked_where_goes s.session e.session events.Opened acts goes
+asked_event events.Ask s e now acts (goes, paces) = asked_where_goes s.session e.session events.Ask acts goes
+asked_event events.CaughtUp s e now acts (goes, paces) = sym (asked_word s.session.phase s.pace.left) ∙ asked_where_goes s.session e.session (word_of s.pace.left) acts goes
+asked_event events.Tick s e now acts (asked, ticks) = asked
 asked_event events.End s e now acts (goes, paces) = asked_where_goes s.session e.session events.End acts goes
 asked_event events.ReadFault s e now acts (goes, paces) = asked_where_goes s.session e.session events.ReadFault acts goes
 asked_event events.WriteFault s e now acts (goes, paces) = asked_where_goes s.session e.session events.WriteFault acts goes

@@ -1,5 +1,5 @@
 -- When a session that stays sends, and when it begins resyncs.
-use Rattle.std.proofs.Common.{◌≡◌, ◌≢◌, ◌≤◌, ◌<◌, ◌⊎◌, ℕ, ◌+◌, ◌-◌, Bool, true, false, not, ◌&&◌, ◌||◌, cond, List, [], ◌∷◌, Option, Some, None, refl, sym, ap, ◌∙◌, subst, inl, inr, arith}
+use Rattle.std.proofs.Common.{◌≡◌, ◌≢◌, ◌≤◌, ◌<◌, ◌⊎◌, ℕ, ◌+◌, ◌-◌, Bool, true, false, not, ◌&&◌, ◌||◌, cond, List, [], ◌∷◌, Option, Some, None, refl, sym, ap, ◌∙◌, subst, inl, inr, arith, ◌++◌}
 use Rattle.std.specs.List.{list_any, AllByRecursion}
 use Rattle.std.proofs.lemmas.Bool.{false≢true, leb-true, leb-false, lt-leb}
 use Rattle.known_state.specs.Known.{KnownState}
@@ -15,10 +15,11 @@ use Rattle.session_core.specs.Shares.{any_out}
 use Rattle.session_core.specs.Courses.{Course, table_to_ask}
 use Rattle.session_core.specs.Sessions.{SessionState}
 use Rattle.session_core.specs.Paces.{Pace, renewed, has_passed, heartbeat_time, silence_time, push_time, is_rested, awaits_names, is_ahead}
-use Rattle.session_core.specs.Standing.{StandingState, is_open, sends, is_send, HandsOn, Does, task_at, TakesTurn, Writes, answer_of_refusal, Stands, TicksIn, Ticks}
-use Rattle.session_core.specs.StandingRuns.{Happening, At, Tick, Ask, CatchUp, Happens, Lasts, is_heartbeat}
-use Rattle.session_core.specs.StandingSteps.{IsSince, SendsAt, sent_by}
-use Rattle.session_core.proofs.TickGives.{tick_beats_if}
+use Rattle.session_core.specs.Standing.{StandingState, is_open, sends, is_send, HandsOn, Does, task_at, TakesTurn, Writes, answer_of_refusal, Stands, TicksIn, word_of, reopening}
+use Rattle.session_core.specs.Actions.{is_heartbeat}
+use Rattle.session_core.specs.Happenings.{Happening, IsSince, SendsAt, sent_by}
+use Rattle.session_core.proofs.MachineRuns.{Ticks, Happens, Lasts}
+use Rattle.session_core.proofs.TickGives.{after_reopening, tick_beats_if}
 
 -- ---- when bytes were last sent
 
@@ -50,19 +51,6 @@ sent_refused : (ahead : Bool) (s e : StandingState) (now table : ℕ) (acts : Li
 sent_refused true s e now table acts (goes, paces) = ap (λ (p : Pace). p.sent) paces
 sent_refused false s e now table acts (goes, paces) = ap (λ (p : Pace). p.sent) paces
 
-sent_stands : (event : Event) (s e : StandingState) (now : ℕ) (acts : List Action) → Stands s now event acts e → e.pace.sent ≡ renewed (sends event acts) now s.pace.sent
-sent_stands (events.Bytes bytes) s e now acts (goes, paces) = ap (λ (p : Pace). p.sent) paces
-sent_stands events.Turn s e now acts turns = sent_turn s.session.phase s e now acts turns
-sent_stands (events.Written known) s e now acts writes = sent_writes s.session.phase s e now known acts writes
-sent_stands (events.Copied table batch) s e now acts (goes, paces) = ap (λ (p : Pace). p.sent) paces
-sent_stands (events.Refused table) s e now acts hands = sent_refused (is_ahead table s.pace.progress) s e now table acts hands
-sent_stands events.Opened s e now acts (goes, paces) = ap (λ (p : Pace). p.sent) paces
-sent_stands events.End s e now acts (goes, paces) = ap (λ (p : Pace). p.sent) paces
-sent_stands events.ReadFault s e now acts (goes, paces) = ap (λ (p : Pace). p.sent) paces
-sent_stands events.WriteFault s e now acts (goes, paces) = ap (λ (p : Pace). p.sent) paces
-sent_stands (events.Nothing table) s e now acts (goes, paces) = ap (λ (p : Pace). p.sent) paces
-sent_stands (events.Settled table settled) s e now acts (goes, paces) = ap (λ (p : Pace). p.sent) paces
-
 -- a tick that asks for nothing that sends
 still_then : (before now : ℕ) (acts given : List Action) → list_any is_send given ≡ false → acts ≡ given → before ≡ renewed (list_any is_send acts) now before
 still_then before now acts given none is = sym (rw (ap (list_any is_send) is ∙ none) refl)
@@ -74,11 +62,32 @@ sent_ticks false (phases.New hello c) s e now left acts (leaves, is, same) = ap 
 sent_ticks false (phases.Hello greeter bytes c) s e now left acts (leaves, is, same) = ap (λ (x : StandingState). x.pace.sent) same ∙ still_then s.pace.sent now acts [] refl is
 sent_ticks false phases.Ended s e now left acts (leaves, is, same) = ap (λ (x : StandingState). x.pace.sent) same ∙ still_then s.pace.sent now acts [] refl is
 
+sends_after : (left : List ℕ) (rest : List Action) → list_any is_send (reopening left ++ rest) ≡ list_any is_send rest
+sends_after left rest = after_reopening is_send (λ table. refl) left rest
+
+sent_word : (b : Bool) (s e : StandingState) (now : ℕ) (acts : List Action) → HandsOn s now (word_of b) acts e → e.pace.sent ≡ renewed (sends events.CaughtUp acts) now s.pace.sent
+sent_word true s e now acts (goes, paces) = ap (λ (p : Pace). p.sent) paces
+sent_word false s e now acts (goes, paces) = ap (λ (p : Pace). p.sent) paces
+
+sent_stands : (event : Event) (s e : StandingState) (now : ℕ) (acts : List Action) → Stands s now event acts e → e.pace.sent ≡ renewed (sends event acts) now s.pace.sent
+sent_stands (events.Bytes bytes) s e now acts (goes, paces) = ap (λ (p : Pace). p.sent) paces
+sent_stands events.Turn s e now acts turns = sent_turn s.session.phase s e now acts turns
+sent_stands (events.Written known) s e now acts writes = sent_writes s.session.phase s e now known acts writes
+sent_stands (events.Copied table batch) s e now acts (goes, paces) = ap (λ (p : Pace). p.sent) paces
+sent_stands (events.Refused table) s e now acts hands = sent_refused (is_ahead table s.pace.progress) s e now table acts hands
+sent_stands events.Opened s e now acts (goes, paces) = ap (λ (p : Pace). p.sent) paces
+sent_stands events.Ask s e now acts (goes, paces) = ap (λ (p : Pace). p.sent) paces
+sent_stands events.CaughtUp s e now acts hands = sent_word s.pace.left s e now acts hands
+sent_stands events.Tick s e now acts (asked, (left, rest, ticks, is)) =
+    sent_ticks _ s.session.phase s e now left rest ticks ∙ ap (λ (b : Bool). renewed b now s.pace.sent) (sym (ap (list_any is_send) is ∙ sends_after left rest))
+sent_stands events.End s e now acts (goes, paces) = ap (λ (p : Pace). p.sent) paces
+sent_stands events.ReadFault s e now acts (goes, paces) = ap (λ (p : Pace). p.sent) paces
+sent_stands events.WriteFault s e now acts (goes, paces) = ap (λ (p : Pace). p.sent) paces
+sent_stands (events.Nothing table) s e now acts (goes, paces) = ap (λ (p : Pace). p.sent) paces
+sent_stands (events.Settled table settled) s e now acts (goes, paces) = ap (λ (p : Pace). p.sent) paces
+
 pub last_sent : (s e : StandingState) (one : Happening) → Happens s one e → e.pace.sent ≡ sent_by one s.pace.sent
-last_sent s e (At now event acts) stands = sent_stands event s e now acts stands
-last_sent s e (Tick now left acts) (asked, ticks) = sent_ticks _ s.session.phase s e now left acts ticks
-last_sent s e (Ask now) sent = ap (λ (x : StandingState). x.pace.sent) sent
-last_sent s e CatchUp caught = ap (λ (x : StandingState). x.pace.sent) caught
+last_sent s e one happens = sent_stands one.event s e one.now one.acts happens
 
 -- ---- no heartbeat is owed after a tick
 
@@ -130,10 +139,7 @@ since_renewed true m now before then was = then
 since_renewed false m now before then was = was
 
 since_one : (one : Happening) (m before : ℕ) → IsSince m one → m ≤ before → m ≤ sent_by one before
-since_one (At now event acts) m before since was = since_renewed (sends event acts) m now before since was
-since_one (Tick now left acts) m before since was = since_renewed (list_any is_send acts) m now before since was
-since_one (Ask now) m before since was = since
-since_one CatchUp m before since was = was
+since_one one m before since was = since_renewed (sends one.event one.acts) m one.now before since was
 
 -- since bytes were sent, they were last sent then or later
 since_lasts : (steps : List Happening) (s e : StandingState) (m : ℕ) → m ≤ s.pace.sent → AllByRecursion (IsSince m) steps → Lasts s steps e → m ≤ e.pace.sent
@@ -145,10 +151,7 @@ renewed_then : (b : Bool) (m now before : ℕ) → now ≡ m → b ≡ true → 
 renewed_then b m now before is so = rw so (omega arith)
 
 sent_at_least : (one : Happening) (m before : ℕ) → SendsAt m one → m ≤ sent_by one before
-sent_at_least (At now event acts) m before (is, so) = renewed_then (sends event acts) m now before is so
-sent_at_least (Tick now left acts) m before (is, so) = renewed_then (list_any is_send acts) m now before is so
-sent_at_least (Ask now) m before is = omega (arith, is)
-sent_at_least CatchUp m before bad = absurd bad
+sent_at_least one m before (is, so) = renewed_then (sends one.event one.acts) m one.now before is so
 
 and_last : (a b c : Bool) → (a && (b && c)) ≡ true → c ≡ true
 and_last true true c so = so
@@ -175,10 +178,7 @@ later_renewed true m sent now before then was = inr then
 later_renewed false m sent now before then was = was
 
 later_one : (one : Happening) (m sent before : ℕ) → IsSince m one → IsSentBy sent m before → IsSentBy sent m (sent_by one before)
-later_one (At now event acts) m sent before since was = later_renewed (sends event acts) m sent now before since was
-later_one (Tick now left acts) m sent before since was = later_renewed (list_any is_send acts) m sent now before since was
-later_one (Ask now) m sent before since was = inr since
-later_one CatchUp m sent before since was = was
+later_one one m sent before since was = later_renewed (sends one.event one.acts) m sent one.now before since was
 
 later_lasts : (steps : List Happening) (s e : StandingState) (m sent : ℕ) → IsSentBy sent m s.pace.sent → AllByRecursion (IsSince m) steps → Lasts s steps e → IsSentBy sent m e.pace.sent
 later_lasts [] s e m sent was since here = subst (λ (x : StandingState). IsSentBy sent m x.pace.sent) (sym here) was
@@ -232,6 +232,13 @@ rested_writes (phases.New hello c) s e now known acts writes = absurd writes
 rested_writes (phases.Hello greeter bytes c) s e now known acts writes = absurd writes
 rested_writes phases.Ended s e now known acts writes = absurd writes
 
+ticks_reopened : (silent : Bool) (phase : Phase) (s e : StandingState) (now : ℕ) (left : List ℕ) (acts : List Action) → TicksIn silent phase s now left acts e → e.pace.reopened ≡ s.pace.reopened
+ticks_reopened true phase s e now left acts (leaves, is, session, paces) = ap (λ (p : Pace). p.reopened) paces
+ticks_reopened false (phases.Open c) s e now left acts (leaves, is, session, paces) = ap (λ (p : Pace). p.reopened) paces
+ticks_reopened false (phases.New hello c) s e now left acts (leaves, is, same) = ap (λ (x : StandingState). x.pace.reopened) same
+ticks_reopened false (phases.Hello greeter bytes c) s e now left acts (leaves, is, same) = ap (λ (x : StandingState). x.pace.reopened) same
+ticks_reopened false phases.Ended s e now left acts (leaves, is, same) = ap (λ (x : StandingState). x.pace.reopened) same
+
 rested_stands : (event : Event) (s e : StandingState) (now : ℕ) (acts : List Action) → Stands s now event acts e → IsRestedOr s now e
 rested_stands (events.Bytes bytes) s e now acts (goes, paces) = inl (ap (λ (p : Pace). p.reopened) paces)
 rested_stands events.Turn s e now acts turns = rested_turn s.session.phase s e now acts turns
@@ -239,18 +246,14 @@ rested_stands (events.Written known) s e now acts writes = rested_writes s.sessi
 rested_stands (events.Copied table batch) s e now acts (goes, paces) = inl (ap (λ (p : Pace). p.reopened) paces)
 rested_stands (events.Refused table) s e now acts (goes, paces) = inl (ap (λ (p : Pace). p.reopened) paces)
 rested_stands events.Opened s e now acts (goes, paces) = inl (ap (λ (p : Pace). p.reopened) paces)
+rested_stands events.Ask s e now acts (goes, paces) = inl (ap (λ (p : Pace). p.reopened) paces)
+rested_stands events.CaughtUp s e now acts (goes, paces) = inl (ap (λ (p : Pace). p.reopened) paces)
+rested_stands events.Tick s e now acts (asked, (left, rest, ticks, is)) = inl (ticks_reopened _ s.session.phase s e now left rest ticks)
 rested_stands events.End s e now acts (goes, paces) = inl (ap (λ (p : Pace). p.reopened) paces)
 rested_stands events.ReadFault s e now acts (goes, paces) = inl (ap (λ (p : Pace). p.reopened) paces)
 rested_stands events.WriteFault s e now acts (goes, paces) = inl (ap (λ (p : Pace). p.reopened) paces)
 rested_stands (events.Nothing table) s e now acts (goes, paces) = inl (ap (λ (p : Pace). p.reopened) paces)
 rested_stands (events.Settled table settled) s e now acts (goes, paces) = inl (ap (λ (p : Pace). p.reopened) paces)
-
-ticks_reopened : (silent : Bool) (phase : Phase) (s e : StandingState) (now : ℕ) (left : List ℕ) (acts : List Action) → TicksIn silent phase s now left acts e → e.pace.reopened ≡ s.pace.reopened
-ticks_reopened true phase s e now left acts (leaves, is, session, paces) = ap (λ (p : Pace). p.reopened) paces
-ticks_reopened false (phases.Open c) s e now left acts (leaves, is, session, paces) = ap (λ (p : Pace). p.reopened) paces
-ticks_reopened false (phases.New hello c) s e now left acts (leaves, is, same) = ap (λ (x : StandingState). x.pace.reopened) same
-ticks_reopened false (phases.Hello greeter bytes c) s e now left acts (leaves, is, same) = ap (λ (x : StandingState). x.pace.reopened) same
-ticks_reopened false phases.Ended s e now left acts (leaves, is, same) = ap (λ (x : StandingState). x.pace.reopened) same
 
 pub begins_if_rested : (s e : StandingState) (now : ℕ) (event : Event) (acts : List Action) → Stands s now event acts e → e.pace.reopened ≢ s.pace.reopened → is_rested s.pace.reopened now ≡ true
 begins_if_rested s e now event acts stands begins = elim (rested_stands event s e now acts stands) [
@@ -268,10 +271,7 @@ begun_or s e m now since was (inl same) = subst (IsBegunSince m) (sym same) was
 begun_or s e m now since was (inr (rested, is)) = subst (IsBegunSince m) (sym is) since
 
 begun_one : (one : Happening) (s e : StandingState) (m : ℕ) → IsSince m one → IsBegunSince m s.pace.reopened → Happens s one e → IsBegunSince m e.pace.reopened
-begun_one (At now event acts) s e m since was stands = begun_or s e m now since was (rested_stands event s e now acts stands)
-begun_one (Tick now left acts) s e m since was (asked, ticks) = subst (IsBegunSince m) (sym (ticks_reopened _ s.session.phase s e now left acts ticks)) was
-begun_one (Ask now) s e m since was sent = subst (IsBegunSince m) (sym (ap (λ (x : StandingState). x.pace.reopened) sent)) was
-begun_one CatchUp s e m since was caught = subst (IsBegunSince m) (sym (ap (λ (x : StandingState). x.pace.reopened) caught)) was
+begun_one one s e m since was happens = begun_or s e m one.now since was (rested_stands one.event s e one.now one.acts happens)
 
 pub begun_lasts : (steps : List Happening) (s e : StandingState) (m : ℕ) → IsBegunSince m s.pace.reopened → AllByRecursion (IsSince m) steps → Lasts s steps e → IsBegunSince m e.pace.reopened
 begun_lasts [] s e m was since here = subst (λ (x : StandingState). IsBegunSince m x.pace.reopened) (sym here) was

@@ -19,8 +19,9 @@ use Rattle.session_core.specs.Shares.{any_out, all_quiet, is_out, out_set, quiet
 use Rattle.session_core.specs.Courses.{Course, teaching_anew, acknowledged, ack_received, table_to_ask}
 use Rattle.session_core.specs.Sessions.{SessionState, going, GoesIn, GoesNew, GoesHello, GoesOpen, Turns, HasNothing, FinishesResync, StartsPendingResync, Settles}
 use Rattle.session_core.specs.Paces.{inferred}
-use Rattle.session_core.specs.Standing.{StandingState, changed, finished_if, finishing, Does, task_at, TakesTurn, Writes, Stands, without_tables, leaving, TicksIn, caught_up_in}
-use Rattle.session_core.specs.StandingRuns.{Happening, At, Tick, Ask, CatchUp, Happens, Lasts, BeginsToStay, HasWork}
+use Rattle.session_core.specs.Standing.{StandingState, finished_if, finishing, Does, task_at, TakesTurn, Writes, Stands, without_tables, leaving, TicksIn, word_of}
+use Rattle.session_core.specs.Happenings.{Happening, HasWork}
+use Rattle.session_core.proofs.MachineRuns.{Happens, Lasts, BeginsToStay}
 use Rattle.session_core.proofs.BegunToStay.{begun_in, StaysOn, HearsOn, greeted, heard_open, never_starts, stays_ack, stays_happens, begun_stays}
 
 abbrev IsOrderlyCourse : Course → Type 0
@@ -67,6 +68,9 @@ finishing_orderly c = finished_orderly _ c refl
 orderly_new : (s : SessionState) (hello : Hello) (c : Course) (event : Event) (acts : List Action) (e : SessionState) → IsOrderlyCourse c → GoesNew s hello c event acts e → IsOrderly e.phase
 orderly_new s hello c events.Opened acts e busy (is, ends) = at_phase e _ ends busy
 orderly_new s hello c events.Turn acts e busy (is, ends) = at_phase e _ ends busy
+orderly_new s hello c events.Tick acts e busy (is, ends) = at_phase e _ ends busy
+orderly_new s hello c events.Ask acts e busy (is, ends) = at_phase e _ ends busy
+orderly_new s hello c events.CaughtUp acts e busy (is, ends) = at_phase e _ ends busy
 orderly_new s hello c events.End acts e busy (is, ends) = at_phase e _ ends tt
 orderly_new s hello c events.ReadFault acts e busy (is, ends) = at_phase e _ ends tt
 orderly_new s hello c events.WriteFault acts e busy (is, ends) = at_phase e _ ends tt
@@ -80,6 +84,9 @@ orderly_new s hello c (events.Refused table) acts e busy goes = absurd goes
 orderly_hello : (s : SessionState) (greeter : Greeter) (bytes : List ℕ) (c : Course) (event : Event) (acts : List Action) (e : SessionState) → c.stays ≡ true → IsOrderlyCourse c → GoesHello s greeter bytes c event acts e → IsOrderly e.phase
 orderly_hello s greeter bytes c (events.Bytes piece) acts e stays busy goes = orderly_heard c e.phase busy (greeted s greeter (bytes ++ piece) c acts e stays goes).1
 orderly_hello s greeter bytes c events.Turn acts e stays busy (is, ends) = at_phase e _ ends busy
+orderly_hello s greeter bytes c events.Tick acts e stays busy (is, ends) = at_phase e _ ends busy
+orderly_hello s greeter bytes c events.Ask acts e stays busy (is, ends) = at_phase e _ ends busy
+orderly_hello s greeter bytes c events.CaughtUp acts e stays busy (is, ends) = at_phase e _ ends busy
 orderly_hello s greeter bytes c events.End acts e stays busy (is, ends) = at_phase e _ ends tt
 orderly_hello s greeter bytes c events.ReadFault acts e stays busy (is, ends) = at_phase e _ ends tt
 orderly_hello s greeter bytes c events.WriteFault acts e stays busy (is, ends) = at_phase e _ ends tt
@@ -114,6 +121,9 @@ orderly_settles settles.Older s c table acts e stays orderly (is, ends) = at_pha
 
 orderly_open : (s : SessionState) (c : Course) (event : Event) (acts : List Action) (e : SessionState) → c.stays ≡ true → IsOrderlyCourse c → GoesOpen s c event acts e → IsOrderly e.phase
 orderly_open s c events.Turn acts e stays orderly (due, turns) = orderly_turns (table_to_ask c) s c acts e orderly turns
+orderly_open s c events.Tick acts e stays orderly (due, (is, ends)) = at_phase e _ ends orderly
+orderly_open s c events.Ask acts e stays orderly (due, (is, ends)) = at_phase e _ ends orderly
+orderly_open s c events.CaughtUp acts e stays orderly (due, (is, ends)) = at_phase e _ ends orderly
 orderly_open s c (events.Bytes bytes) acts e stays orderly (due, receives) = orderly_heard c e.phase orderly (heard_open s c bytes acts e stays receives).1
 orderly_open s c (events.Copied table batch) acts e stays orderly (mid, answered, (is, ends)) =
     at_phase e _ ends (orderly_out_set mid table true (subst IsOrderlyCourse (sym answered.1) orderly))
@@ -162,19 +172,6 @@ orderly_writes (phases.New hello c) s e now known acts stays orderly writes = ab
 orderly_writes (phases.Hello greeter bytes c) s e now known acts stays orderly writes = absurd writes
 orderly_writes phases.Ended s e now known acts stays orderly writes = absurd writes
 
-orderly_stands : (event : Event) (s e : StandingState) (now : ℕ) (acts : List Action) → StaysOn s.session.phase → IsOrderly s.session.phase → Stands s now event acts e → IsOrderly e.session.phase
-orderly_stands (events.Bytes bytes) s e now acts stays orderly (goes, pace) = orderly_in s.session.phase s.session (events.Bytes bytes) acts e.session stays orderly goes
-orderly_stands events.Turn s e now acts stays orderly turns = orderly_turn s.session.phase s e now acts stays orderly turns
-orderly_stands (events.Copied table batch) s e now acts stays orderly (goes, pace) = orderly_in s.session.phase s.session (events.Copied table batch) acts e.session stays orderly goes
-orderly_stands (events.Written known) s e now acts stays orderly writes = orderly_writes s.session.phase s e now known acts stays orderly writes
-orderly_stands (events.Refused table) s e now acts stays orderly (goes, pace) = orderly_in s.session.phase s.session _ acts e.session stays orderly goes
-orderly_stands events.Opened s e now acts stays orderly (goes, pace) = orderly_in s.session.phase s.session events.Opened acts e.session stays orderly goes
-orderly_stands events.End s e now acts stays orderly (goes, pace) = orderly_in s.session.phase s.session events.End acts e.session stays orderly goes
-orderly_stands events.ReadFault s e now acts stays orderly (goes, pace) = orderly_in s.session.phase s.session events.ReadFault acts e.session stays orderly goes
-orderly_stands events.WriteFault s e now acts stays orderly (goes, pace) = orderly_in s.session.phase s.session events.WriteFault acts e.session stays orderly goes
-orderly_stands (events.Nothing table) s e now acts stays orderly (goes, pace) = orderly_in s.session.phase s.session (events.Nothing table) acts e.session stays orderly goes
-orderly_stands (events.Settled table settled) s e now acts stays orderly (goes, pace) = orderly_in s.session.phase s.session (events.Settled table settled) acts e.session stays orderly goes
-
 orderly_leaving : (left : List ℕ) (c : Course) → IsOrderlyCourse c → IsOrderlyCourse (leaving left c).1
 orderly_leaving [] c orderly = orderly
 orderly_leaving (table ∷ tables) c orderly = finishing_orderly (without_tables (table ∷ tables) c)
@@ -186,17 +183,24 @@ orderly_ticks false (phases.New hello c) s e now left acts here orderly (leaves,
 orderly_ticks false (phases.Hello greeter bytes c) s e now left acts here orderly (leaves, is, same) = subst (λ (x : StandingState). IsOrderly x.session.phase) (sym same) orderly
 orderly_ticks false phases.Ended s e now left acts here orderly (leaves, is, same) = subst (λ (x : StandingState). IsOrderly x.session.phase) (sym same) orderly
 
-orderly_caught : (left : Bool) (phase : Phase) → IsOrderly phase → IsOrderly (changed (caught_up_in left) phase)
-orderly_caught left (phases.New hello c) orderly = orderly
-orderly_caught left (phases.Hello greeter bytes c) orderly = orderly
-orderly_caught left (phases.Open c) orderly = orderly
-orderly_caught left phases.Ended orderly = tt
+orderly_stands : (event : Event) (s e : StandingState) (now : ℕ) (acts : List Action) → StaysOn s.session.phase → IsOrderly s.session.phase → Stands s now event acts e → IsOrderly e.session.phase
+orderly_stands (events.Bytes bytes) s e now acts stays orderly (goes, pace) = orderly_in s.session.phase s.session (events.Bytes bytes) acts e.session stays orderly goes
+orderly_stands events.Turn s e now acts stays orderly turns = orderly_turn s.session.phase s e now acts stays orderly turns
+orderly_stands (events.Copied table batch) s e now acts stays orderly (goes, pace) = orderly_in s.session.phase s.session (events.Copied table batch) acts e.session stays orderly goes
+orderly_stands (events.Written known) s e now acts stays orderly writes = orderly_writes s.session.phase s e now known acts stays orderly writes
+orderly_stands (events.Refused table) s e now acts stays orderly (goes, pace) = orderly_in s.session.phase s.session _ acts e.session stays orderly goes
+orderly_stands events.Opened s e now acts stays orderly (goes, pace) = orderly_in s.session.phase s.session events.Opened acts e.session stays orderly goes
+orderly_stands events.Ask s e now acts stays orderly (goes, pace) = orderly_in s.session.phase s.session events.Ask acts e.session stays orderly goes
+orderly_stands events.CaughtUp s e now acts stays orderly (goes, pace) = orderly_in s.session.phase s.session (word_of s.pace.left) acts e.session stays orderly goes
+orderly_stands events.Tick s e now acts stays orderly (asked, (left, rest, ticks, is)) = orderly_ticks _ s.session.phase s e now left rest orderly orderly ticks
+orderly_stands events.End s e now acts stays orderly (goes, pace) = orderly_in s.session.phase s.session events.End acts e.session stays orderly goes
+orderly_stands events.ReadFault s e now acts stays orderly (goes, pace) = orderly_in s.session.phase s.session events.ReadFault acts e.session stays orderly goes
+orderly_stands events.WriteFault s e now acts stays orderly (goes, pace) = orderly_in s.session.phase s.session events.WriteFault acts e.session stays orderly goes
+orderly_stands (events.Nothing table) s e now acts stays orderly (goes, pace) = orderly_in s.session.phase s.session (events.Nothing table) acts e.session stays orderly goes
+orderly_stands (events.Settled table settled) s e now acts stays orderly (goes, pace) = orderly_in s.session.phase s.session (events.Settled table settled) acts e.session stays orderly goes
 
 orderly_happens : (one : Happening) (s e : StandingState) → StaysOn s.session.phase → IsOrderly s.session.phase → Happens s one e → IsOrderly e.session.phase
-orderly_happens (At now event acts) s e stays orderly stands = orderly_stands event s e now acts stays orderly stands
-orderly_happens (Tick now left acts) s e stays orderly (asked, ticks) = orderly_ticks _ s.session.phase s e now left acts orderly orderly ticks
-orderly_happens (Ask now) s e stays orderly sent = subst (λ (x : StandingState). IsOrderly x.session.phase) (sym sent) orderly
-orderly_happens CatchUp s e stays orderly caught = subst (λ (x : StandingState). IsOrderly x.session.phase) (sym caught) (orderly_caught s.pace.left s.session.phase orderly)
+orderly_happens one s e stays orderly happens = orderly_stands one.event s e one.now one.acts stays orderly happens
 
 -- ---- runs
 

@@ -35,11 +35,12 @@ use Rattle.session_core.specs.Acks.{ack_of}
 use Rattle.session_core.specs.Shares.{all_quiet, is_out, out_set, quiet_set, unquieted}
 use Rattle.session_core.specs.Actions.{sends_control, status_text}
 use Rattle.session_core.specs.Courses.{Course, course_fed, is_held, teaching_anew, requested, acknowledged, ack_received, said, message_received, AreReceived, ReceivesAll, table_to_ask}
-use Rattle.session_core.specs.Sessions.{SessionState, going, Concludes, ReceivesBytes, first_word, IsWelcomed, Connects, Accepts, Greets, GoesIn, GoesNew, GoesHello, GoesOpen, Turns, HasNothing, FinishesResync, StartsPendingResync, Settles, opening, speaking}
+use Rattle.session_core.specs.Sessions.{SessionState, going, Concludes, ReceivesBytes, first_word, IsWelcomed, Connects, Accepts, Greets, GoesIn, GoesNew, GoesHello, GoesOpen, Turns, HasNothing, FinishesResync, StartsPendingResync, Settles, opening, speaking, Goes}
 use Rattle.session_core.specs.Paces.{inferred, is_ahead}
-use Rattle.session_core.specs.Standing.{StandingState, is_open, changed, shared, finished_if, finishing, Does, task_at, TakesTurn, Writes, answer_of_refusal, Stands, without_tables, leaving, TicksIn, caught_up_in}
-use Rattle.session_core.specs.StandingRuns.{Happening, At, Tick, Ask, CatchUp, Happens, leaves}
-use Rattle.session_core.specs.StandingSteps.{is_settlement, settles_all}
+use Rattle.session_core.specs.Standing.{StandingState, is_open, shared, finished_if, finishing, Does, task_at, TakesTurn, Writes, answer_of_refusal, Stands, without_tables, leaving, TicksIn, word_of}
+use Rattle.session_core.specs.Happenings.{Happening, is_tick, leaves, is_settlement, settles_all}
+use Rattle.session_core.proofs.MachineRuns.{Happens, at}
+use Rattle.session_core.proofs.TickGives.{left_reopened, tick_or_not}
 
 -- ---- truth values
 
@@ -192,6 +193,9 @@ out_greets t s (greeters.Accepts own peers) bytes c acts e out goes = out_accept
 out_new : (t : ℕ) (s : SessionState) (hello : Hello) (c : Course) (event : Event) (acts : List Action) (e : SessionState) → GoesNew s hello c event acts e → IsStillOut t e.phase
 out_new t s hello c events.Opened acts e (is, ends) = still_at t e _ ends (λ opened. absurd (false≢true opened))
 out_new t s hello c events.Turn acts e (is, ends) = still_at t e _ ends (λ opened. absurd (false≢true opened))
+out_new t s hello c events.Tick acts e (is, ends) = still_at t e _ ends (λ opened. absurd (false≢true opened))
+out_new t s hello c events.Ask acts e (is, ends) = still_at t e _ ends (λ opened. absurd (false≢true opened))
+out_new t s hello c events.CaughtUp acts e (is, ends) = still_at t e _ ends (λ opened. absurd (false≢true opened))
 out_new t s hello c events.End acts e (is, ends) = still_at t e _ ends (λ opened. absurd (false≢true opened))
 out_new t s hello c events.ReadFault acts e (is, ends) = still_at t e _ ends (λ opened. absurd (false≢true opened))
 out_new t s hello c events.WriteFault acts e (is, ends) = still_at t e _ ends (λ opened. absurd (false≢true opened))
@@ -205,6 +209,9 @@ out_new t s hello c (events.Refused table) acts e goes = absurd goes
 out_hello : (t : ℕ) (s : SessionState) (greeter : Greeter) (bytes : List ℕ) (c : Course) (event : Event) (acts : List Action) (e : SessionState) → is_out t c.shares ≡ true → GoesHello s greeter bytes c event acts e → IsStillOut t e.phase
 out_hello t s greeter bytes c (events.Bytes piece) acts e out goes = out_greets t s greeter (bytes ++ piece) c acts e out goes
 out_hello t s greeter bytes c events.Turn acts e out (is, ends) = still_at t e _ ends (λ opened. absurd (false≢true opened))
+out_hello t s greeter bytes c events.Tick acts e out (is, ends) = still_at t e _ ends (λ opened. absurd (false≢true opened))
+out_hello t s greeter bytes c events.Ask acts e out (is, ends) = still_at t e _ ends (λ opened. absurd (false≢true opened))
+out_hello t s greeter bytes c events.CaughtUp acts e out (is, ends) = still_at t e _ ends (λ opened. absurd (false≢true opened))
 out_hello t s greeter bytes c events.End acts e out (is, ends) = still_at t e _ ends (λ opened. absurd (false≢true opened))
 out_hello t s greeter bytes c events.ReadFault acts e out (is, ends) = still_at t e _ ends (λ opened. absurd (false≢true opened))
 out_hello t s greeter bytes c events.WriteFault acts e out (is, ends) = still_at t e _ ends (λ opened. absurd (false≢true opened))
@@ -247,6 +254,9 @@ answered_out t c mid is out = ap (λ (x : Course). is_out t x.shares) is ∙ out
 
 out_open : (t : ℕ) (s : SessionState) (c : Course) (event : Event) (acts : List Action) (e : SessionState) → is_settlement t event ≡ false → is_out t c.shares ≡ true → GoesOpen s c event acts e → IsStillOut t e.phase
 out_open t s c events.Turn acts e unsettled out (due, turns) = out_turns t (table_to_ask c) s c acts e out turns
+out_open t s c events.Tick acts e unsettled out (due, (is, ends)) = still_at t e _ ends (λ opened. out)
+out_open t s c events.Ask acts e unsettled out (due, (is, ends)) = still_at t e _ ends (λ opened. out)
+out_open t s c events.CaughtUp acts e unsettled out (due, (is, ends)) = still_at t e _ ends (λ opened. out)
 out_open t s c (events.Bytes bytes) acts e unsettled out (due, receives) = out_receives t s (course_fed c bytes) [] acts e out receives
 out_open t s c (events.Copied table batch) acts e unsettled out (mid, answered, (is, ends)) =
     still_at t e _ ends (λ opened. out_more t table mid.shares (answered_out t c mid answered.1 out))
@@ -306,19 +316,26 @@ no_settlement : (t : ℕ) (b : Bool) (table : ℕ) → is_settlement t (answer_o
 no_settlement t true table = refl
 no_settlement t false table = and-no (table == t)
 
-out_stands : (t : ℕ) (event : Event) (s e : StandingState) (now : ℕ) (acts : List Action) → is_settlement t event ≡ false → is_out t (shared s.session.phase) ≡ true → Stands s now event acts e → IsStillOut t e.session.phase
-out_stands t (events.Bytes bytes) s e now acts unsettled out (goes, paces) = out_in t s.session.phase s.session (events.Bytes bytes) acts e.session unsettled out goes
-out_stands t events.Turn s e now acts unsettled out turns = out_turn t s.session.phase s e now acts refl out turns
-out_stands t (events.Written known) s e now acts unsettled out writes = out_writes t s.session.phase s e now known acts out writes
-out_stands t (events.Refused table) s e now acts unsettled out (goes, paces) =
+no_settling_word : (t : ℕ) (b : Bool) → is_settlement t (word_of b) ≡ false
+no_settling_word t true = refl
+no_settling_word t false = refl
+
+out_stands : (t : ℕ) (event : Event) (s e : StandingState) (now : ℕ) (acts : List Action) → is_settlement t event ≡ false → is_tick event ≡ false → is_out t (shared s.session.phase) ≡ true → Stands s now event acts e → IsStillOut t e.session.phase
+out_stands t (events.Bytes bytes) s e now acts unsettled other out (goes, paces) = out_in t s.session.phase s.session (events.Bytes bytes) acts e.session unsettled out goes
+out_stands t events.Turn s e now acts unsettled other out turns = out_turn t s.session.phase s e now acts refl out turns
+out_stands t (events.Written known) s e now acts unsettled other out writes = out_writes t s.session.phase s e now known acts out writes
+out_stands t (events.Refused table) s e now acts unsettled other out (goes, paces) =
     out_in t s.session.phase s.session _ acts e.session (no_settlement t (is_ahead table s.pace.progress) table) out goes
-out_stands t (events.Copied table batch) s e now acts unsettled out (goes, paces) = out_in t s.session.phase s.session (events.Copied table batch) acts e.session unsettled out goes
-out_stands t events.Opened s e now acts unsettled out (goes, paces) = out_in t s.session.phase s.session events.Opened acts e.session unsettled out goes
-out_stands t events.End s e now acts unsettled out (goes, paces) = out_in t s.session.phase s.session events.End acts e.session unsettled out goes
-out_stands t events.ReadFault s e now acts unsettled out (goes, paces) = out_in t s.session.phase s.session events.ReadFault acts e.session unsettled out goes
-out_stands t events.WriteFault s e now acts unsettled out (goes, paces) = out_in t s.session.phase s.session events.WriteFault acts e.session unsettled out goes
-out_stands t (events.Nothing table) s e now acts unsettled out (goes, paces) = out_in t s.session.phase s.session (events.Nothing table) acts e.session unsettled out goes
-out_stands t (events.Settled table settled) s e now acts unsettled out (goes, paces) = out_in t s.session.phase s.session (events.Settled table settled) acts e.session unsettled out goes
+out_stands t (events.Copied table batch) s e now acts unsettled other out (goes, paces) = out_in t s.session.phase s.session (events.Copied table batch) acts e.session unsettled out goes
+out_stands t events.Opened s e now acts unsettled other out (goes, paces) = out_in t s.session.phase s.session events.Opened acts e.session unsettled out goes
+out_stands t events.Ask s e now acts unsettled other out (goes, paces) = out_in t s.session.phase s.session events.Ask acts e.session unsettled out goes
+out_stands t events.CaughtUp s e now acts unsettled other out (goes, paces) = out_in t s.session.phase s.session _ acts e.session (no_settling_word t s.pace.left) out goes
+out_stands t events.Tick s e now acts unsettled other out stands = absurd (false≢true (sym other))
+out_stands t events.End s e now acts unsettled other out (goes, paces) = out_in t s.session.phase s.session events.End acts e.session unsettled out goes
+out_stands t events.ReadFault s e now acts unsettled other out (goes, paces) = out_in t s.session.phase s.session events.ReadFault acts e.session unsettled out goes
+out_stands t events.WriteFault s e now acts unsettled other out (goes, paces) = out_in t s.session.phase s.session events.WriteFault acts e.session unsettled out goes
+out_stands t (events.Nothing table) s e now acts unsettled other out (goes, paces) = out_in t s.session.phase s.session (events.Nothing table) acts e.session unsettled out goes
+out_stands t (events.Settled table settled) s e now acts unsettled other out (goes, paces) = out_in t s.session.phase s.session (events.Settled table settled) acts e.session unsettled out goes
 
 out_leaving : (t : ℕ) (left : List ℕ) (c : Course) → list_any (λ table. table == t) left ≡ false → is_out t c.shares ≡ true → is_out t (leaving left c).1.shares ≡ true
 out_leaving t [] c stays out = out
@@ -332,15 +349,17 @@ out_ticks t false (phases.New hello c) s e now left acts stands stays out (leave
 out_ticks t false (phases.Hello greeter bytes c) s e now left acts stands stays out (leaves, is, same) = out_still t s e same out
 out_ticks t false phases.Ended s e now left acts stands stays out (leaves, is, same) = out_still t s e same out
 
-out_caught : (t : ℕ) (left : Bool) (phase : Phase) → is_out t (shared phase) ≡ true → is_out t (shared (changed (caught_up_in left) phase)) ≡ true
-out_caught t left (phases.New hello c) out = out
-out_caught t left (phases.Hello greeter bytes c) out = out
-out_caught t left (phases.Open c) out = out
-out_caught t left phases.Ended out = absurd (false≢true out)
+out_tick : (t : ℕ) (s e : StandingState) (now : ℕ) (acts : List Action) → is_out t (shared s.session.phase) ≡ true → leaves t (at now events.Tick acts) ≡ false → Stands s now events.Tick acts e → IsStillOut t e.session.phase
+out_tick t s e now acts out stays (asked, (left, rest, ticks, is)) =
+    out_ticks t _ s.session.phase s e now left rest refl (sym (left_reopened t _ s.session.phase s e now left rest acts ticks is) ∙ stays) out ticks
 
 pub stays_out : (s e : StandingState) (one : Happening) (table : ℕ) → Happens s one e → is_out table (shared s.session.phase) ≡ true → settles_all table one ≡ false → leaves table one ≡ false → is_open e.session.phase ≡ true → is_out table (shared e.session.phase) ≡ true
-stays_out s e (At now event acts) table stands out unsettled stays opened = out_stands table event s e now acts unsettled out stands opened
-stays_out s e (Tick now left acts) table (asked, ticks) out unsettled stays opened = out_ticks table _ s.session.phase s e now left acts refl stays out ticks opened
-stays_out s e (Ask now) table sent out unsettled stays opened = ap (λ (x : StandingState). is_out table (shared x.session.phase)) sent ∙ out
-stays_out s e CatchUp table caught out unsettled stays opened =
-    ap (λ (x : StandingState). is_out table (shared x.session.phase)) caught ∙ out_caught table s.pace.left s.session.phase out
+stays_out s e one table happens out unsettled stays opened = elim (tick_or_not one.event) [
+  | inl is ↦
+      out_tick table s e one.now one.acts out (subst (λ (event : Event). leaves table (at one.now event one.acts) ≡ false) is stays) (subst (λ (event : Event). Stands s one.now event one.acts e) is happens) opened
+  | inr other ↦ out_stands table one.event s e one.now one.acts unsettled other out happens opened
+]
+
+-- so it is in a plain session
+pub stays_out_plain : (s e : SessionState) (one : Happening) (table : ℕ) → Goes s one.event one.acts e → is_out table (shared s.phase) ≡ true → settles_all table one ≡ false → is_open e.phase ≡ true → is_out table (shared e.phase) ≡ true
+stays_out_plain s e one table goes out unsettled opened = out_in table s.phase s one.event one.acts e unsettled out goes opened

@@ -164,6 +164,9 @@ bytes_once s e end c first acts others (how, given, mid, receives, concludes) (h
 new_once : (s e end : SessionState) (hello : Hello) (c : Course) (event : Event) (acts others : List Action) → GoesNew s hello c event acts e → GoesNew s hello c event others end → (acts ≡ others) × (e ≡ end)
 new_once s e end hello c events.Opened acts others p q = both p q
 new_once s e end hello c events.Turn acts others p q = both p q
+new_once s e end hello c events.Tick acts others p q = both p q
+new_once s e end hello c events.Ask acts others p q = both p q
+new_once s e end hello c events.CaughtUp acts others p q = both p q
 new_once s e end hello c events.End acts others p q = both p q
 new_once s e end hello c events.ReadFault acts others p q = both p q
 new_once s e end hello c events.WriteFault acts others p q = both p q
@@ -195,6 +198,9 @@ greets_once (greeters.Accepts own peers) s e end bytes c acts others p q = accep
 hello_once : (s e end : SessionState) (greeter : Greeter) (bytes : List ℕ) (c : Course) (event : Event) (acts others : List Action) → GoesHello s greeter bytes c event acts e → GoesHello s greeter bytes c event others end → (acts ≡ others) × (e ≡ end)
 hello_once s e end greeter bytes c (events.Bytes piece) acts others p q = greets_once greeter s e end (bytes ++ piece) c acts others p q
 hello_once s e end greeter bytes c events.Turn acts others p q = both p q
+hello_once s e end greeter bytes c events.Tick acts others p q = both p q
+hello_once s e end greeter bytes c events.Ask acts others p q = both p q
+hello_once s e end greeter bytes c events.CaughtUp acts others p q = both p q
 hello_once s e end greeter bytes c events.End acts others p q = both p q
 hello_once s e end greeter bytes c events.ReadFault acts others p q = both p q
 hello_once s e end greeter bytes c events.WriteFault acts others p q = both p q
@@ -238,6 +244,9 @@ settles_once settles.Older s e end c table acts others p q = both p q
 
 open_once : (s e end : SessionState) (c : Course) (event : Event) (acts others : List Action) → GoesOpen s c event acts e → GoesOpen s c event others end → (acts ≡ others) × (e ≡ end)
 open_once s e end c events.Turn acts others (none, p) (none', q) = turns_once (table_to_ask c) s e end c acts others p q
+open_once s e end c events.Tick acts others (none, p) (none', q) = both p q
+open_once s e end c events.Ask acts others (none, p) (none', q) = both p q
+open_once s e end c events.CaughtUp acts others (none, p) (none', q) = both p q
 open_once s e end c (events.Bytes bytes) acts others (none, p) (none', q) = bytes_once s e end (course_fed c bytes) [] acts others p q
 open_once s e end c (events.Copied table batch) acts others (mid, answered, p) (next, answered', q) =
     both p (subst (λ (x : Course). IsCopied s x table batch others end) (answered_once c mid next _ answered answered') q)

@@ -30,7 +30,7 @@ use Rattle.peers_msg.specs.declared.message.Message.{Message}
 use Rattle.learner.specs.Intake.{due_acks}
 use Rattle.session_core.specs.Shares.{out_set, quiet_set, next_table}
 use Rattle.session_core.specs.Actions.{sends_control, sends_acks, status_text}
-use Rattle.session_core.specs.Courses.{Course, course_fed, ReceivesAll, acks_given, acks_sent, table_to_ask, kind_of, teaching_anew}
+use Rattle.session_core.specs.Courses.{Course, course_fed, caught_up, ReceivesAll, acks_given, acks_sent, table_to_ask, kind_of, teaching_anew}
 use Rattle.session_core.specs.Sessions.{SessionState, Concludes, ReceivesBytes, IsWelcomed, Connects, Accepts, Greets, GoesNew, GoesHello, GoesOpen, GoesIn, Turns, IsCopied, HasNothing, FinishesResync, StartsPendingResync, Settles, first_word, opening, speaking}
 use Rattle.session_core.specs.Runs.{copies, reopened, IsLeft, HasNothingLeft}
 use Rattle.session_core.proofs.ShareLemmas.{shares_in, set_at, never, out_set_in, quiet_set_in, IsFree, next_free, no_clash}
@@ -78,6 +78,9 @@ receives_kept stays ids steps s c first acts e event calm plain (result, given, 
 new_kept : (stays : Bool) (ids : List ℕ) (steps : List (Event × List Action)) (s : SessionState) (hello : Hello) (c : Course) (event : Event) (acts : List Action) (e : SessionState) → IsFresh stays ids c → GoesNew s hello c event acts e → IsKeptIn stays ids (with_step steps event acts) e.phase
 new_kept stays ids steps s hello c events.Opened acts e fresh (is, ends) = stands stays ids _ e (phases.Hello (greeters.Connects hello.version) [] c) (ap (λ (x : SessionState). x.phase) ends) fresh
 new_kept stays ids steps s hello c events.Turn acts e fresh (is, ends) = stands stays ids _ e (phases.New hello c) (ap (λ (x : SessionState). x.phase) ends) fresh
+new_kept stays ids steps s hello c events.Tick acts e fresh (is, ends) = stands stays ids _ e (phases.New hello c) (ap (λ (x : SessionState). x.phase) ends) fresh
+new_kept stays ids steps s hello c events.Ask acts e fresh (is, ends) = stands stays ids _ e (phases.New hello c) (ap (λ (x : SessionState). x.phase) ends) fresh
+new_kept stays ids steps s hello c events.CaughtUp acts e fresh (is, ends) = stands stays ids _ e (phases.New hello (caught_up c)) (ap (λ (x : SessionState). x.phase) ends) fresh
 new_kept stays ids steps s hello c events.End acts e fresh (is, ends) = stands stays ids (with_step steps events.End acts) e phases.Ended (ap (λ (x : SessionState). x.phase) ends) tt
 new_kept stays ids steps s hello c events.ReadFault acts e fresh (is, ends) = stands stays ids (with_step steps events.ReadFault acts) e phases.Ended (ap (λ (x : SessionState). x.phase) ends) tt
 new_kept stays ids steps s hello c events.WriteFault acts e fresh (is, ends) = stands stays ids (with_step steps events.WriteFault acts) e phases.Ended (ap (λ (x : SessionState). x.phase) ends) tt
@@ -109,6 +112,9 @@ greets_kept stays ids steps s (greeters.Accepts own peers) bytes c acts e event 
 hello_kept : (stays : Bool) (ids : List ℕ) (steps : List (Event × List Action)) (s : SessionState) (greeter : Greeter) (bytes : List ℕ) (c : Course) (event : Event) (acts : List Action) (e : SessionState) → IsFresh stays ids c → GoesHello s greeter bytes c event acts e → IsKeptIn stays ids (with_step steps event acts) e.phase
 hello_kept stays ids steps s greeter bytes c (events.Bytes piece) acts e fresh goes = greets_kept stays ids steps s greeter (bytes ++ piece) c acts e (events.Bytes piece) fresh goes
 hello_kept stays ids steps s greeter bytes c events.Turn acts e fresh (is, ends) = stands stays ids _ e (phases.Hello greeter bytes c) (ap (λ (x : SessionState). x.phase) ends) fresh
+hello_kept stays ids steps s greeter bytes c events.Tick acts e fresh (is, ends) = stands stays ids _ e (phases.Hello greeter bytes c) (ap (λ (x : SessionState). x.phase) ends) fresh
+hello_kept stays ids steps s greeter bytes c events.Ask acts e fresh (is, ends) = stands stays ids _ e (phases.Hello greeter bytes c) (ap (λ (x : SessionState). x.phase) ends) fresh
+hello_kept stays ids steps s greeter bytes c events.CaughtUp acts e fresh (is, ends) = stands stays ids _ e (phases.Hello greeter bytes (caught_up c)) (ap (λ (x : SessionState). x.phase) ends) fresh
 hello_kept stays ids steps s greeter bytes c events.End acts e fresh (is, ends) = stands stays ids (with_step steps events.End acts) e phases.Ended (ap (λ (x : SessionState). x.phase) ends) tt
 hello_kept stays ids steps s greeter bytes c events.ReadFault acts e fresh (is, ends) = stands stays ids (with_step steps events.ReadFault acts) e phases.Ended (ap (λ (x : SessionState). x.phase) ends) tt
 hello_kept stays ids steps s greeter bytes c events.WriteFault acts e fresh (is, ends) = stands stays ids (with_step steps events.WriteFault acts) e phases.Ended (ap (λ (x : SessionState). x.phase) ends) tt
@@ -262,6 +268,13 @@ settles_kept stays ids steps settles.Older s c table acts e event calm (is, ends
 open_kept : (stays : Bool) (ids : List ℕ) (steps : List (Event × List Action)) (s : SessionState) (c : Course) (event : Event) (acts : List Action) (e : SessionState) → IsSound stays ids steps c → GoesOpen s c event acts e → IsKeptIn stays ids (with_step steps event acts) e.phase
 open_kept stays ids steps s c events.Turn acts e (out, quiet, flags, sound) (none, turns) =
     turns_kept stays ids steps (table_to_ask c) s c acts e refl (out, quiet, flags, rw none refl) turns
+open_kept stays ids steps s c events.Tick acts e (out, quiet, flags, sound) (none, (is, ends)) =
+    stays_kept stays ids steps s c acts e events.Tick (out, quiet, flags, rw none refl) is (ap (λ (x : SessionState). x.phase) ends)
+open_kept stays ids steps s c events.CaughtUp acts e (out, quiet, flags, sound) (none, (is, ends)) =
+    stays_kept stays ids steps s (caught_up c) acts e events.CaughtUp (out, quiet, flags, rw none refl) is (ap (λ (x : SessionState). x.phase) ends)
+open_kept stays ids steps s c events.Ask acts e (out, quiet, flags, sound) (none, (is, ends)) =
+    stands stays ids (with_step steps events.Ask acts) e (phases.Open c) (ap (λ (x : SessionState). x.phase) ends)
+    (calm_sound stays ids (with_step steps events.Ask acts) c (calm_more stays ids steps c events.Ask acts (λ id. rw is (refl, refl)) (out, quiet, flags, rw none refl)))
 open_kept stays ids steps s c (events.Bytes bytes) acts e (out, quiet, flags, sound) (none, receives) =
     receives_kept stays ids steps s (course_fed c bytes) [] acts e (events.Bytes bytes) (out, quiet, flags, rw none refl, λ _ id _. refl) (λ id. (refl, refl)) receives
 open_kept stays ids steps s c (events.Copied table batch) acts e sound (mid, answered, copied) =

@@ -33,6 +33,10 @@ reopens ss = map (λ s. actions.Reopen s.table) ss
 
 -- ---- what was sent
 
+abbrev pub is_heartbeat : Action → Bool
+is_heartbeat (actions.Send bytes) = is_same bytes (control_text controls.Heartbeat)
+is_heartbeat action = false
+
 abbrev pub is_confirmation : Action → Bool
 is_confirmation (actions.Send bytes) = is_same bytes (control_text controls.ResyncConfirmed)
 is_confirmation action = false

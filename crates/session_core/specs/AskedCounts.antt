@@ -2,12 +2,12 @@
 use Rattle.std.specs.Prelude.{ℕ, ◌+◌, ◌-◌, ◌^◌, min, List, [], ◌∷◌, length, if◌then◌else◌}
 use Rattle.session_core.specs.declared.action.Action.{Action}
 use Rattle.session_core.specs.declared.action.Action.TheVariants as actions
-use Rattle.session_core.specs.declared.tally.Counts.{Counts}
+use Rattle.session_core.specs.declared.counts.Counts.{Counts}
+use Rattle.session_core.specs.Actions.{is_heartbeat}
 use Rattle.session_core.specs.HeardCounts.{one_more}
 use Rattle.session_core.specs.Manners.{Manner}
 use Rattle.session_core.specs.Manners as manners
 use Rattle.session_core.specs.Runs.{is_end}
-use Rattle.session_core.specs.StandingRuns.{is_heartbeat}
 
 -- before anything
 abbrev pub none_asked : Counts

@@ -62,6 +62,10 @@ course_fed c bytes = record c { intake = fed c.intake bytes }
 abbrev pub teaching_anew : Course → Course
 teaching_anew c = record c { shares = unquieted c.shares; teaching = true; waits = false }
 
+-- this node is up to date itself from then on
+abbrev pub caught_up : Course → Course
+caught_up c = record c { up_to_date = true }
+
 -- ---- one message
 
 -- what defers a resync request: an outstanding batch; or that the session stays, which leaves it to a turn

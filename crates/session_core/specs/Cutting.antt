@@ -5,17 +5,19 @@ use Rattle.session_core.specs.declared.action.Action.TheVariants as actions
 use Rattle.session_core.specs.declared.event.Event.TheVariants as events
 use Rattle.session_core.specs.Phases as phases
 use Rattle.session_core.specs.Actions.{is_confirmation}
-use Rattle.session_core.specs.Sessions.{SessionState, Goes}
+use Rattle.session_core.specs.Sessions.{SessionState}
+use Rattle.session_core.specs.Keeping.{KeptSession, Steps}
 
--- the pieces come one after another, in an event each, and all in all ask for these actions
-abbrev pub AreFed : SessionState → List (List ℕ) → List Action → SessionState → Type 0
+-- the pieces come one after another, in an event each, at any moments, and all in all ask for these actions
+abbrev pub AreFed : KeptSession → List (List ℕ) → List Action → KeptSession → Type 0
 AreFed s [] acts e = (acts ≡ []) × (e ≡ s)
 AreFed s (piece ∷ pieces) acts e =
-    (one : List Action)
+    (now : ℕ)
+    × (one : List Action)
     × (rest : List Action)
-    × (mid : SessionState)
+    × (mid : KeptSession)
     × (acts ≡ one ++ rest)
-    × Goes s (events.Bytes piece) one mid
+    × Steps s now (events.Bytes piece) one mid
     × AreFed mid pieces rest e
 
 -- of a stream of bytes, these are not fed: none, unless the session is over

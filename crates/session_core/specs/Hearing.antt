@@ -7,12 +7,14 @@ use Rattle.session_core.specs.declared.action.Action.TheVariants as actions
 use Rattle.session_core.specs.declared.event.Event.{Event}
 use Rattle.session_core.specs.declared.event.Event.TheVariants as events
 use Rattle.session_core.specs.Shares.{is_out}
-use Rattle.session_core.specs.Sessions.{SessionState, Goes}
+use Rattle.session_core.specs.Sessions.{SessionState}
 use Rattle.session_core.specs.Cutting.{without_acks}
 use Rattle.session_core.specs.Paces.{ack_in, is_ahead}
-use Rattle.session_core.specs.Standing.{StandingState, shared, without_reopens}
-use Rattle.session_core.specs.StandingRuns.{Happening, At, Happens}
-use Rattle.session_core.specs.StandingSteps.{is_all}
+use Rattle.session_core.specs.Standing.{shared, without_reopens}
+use Rattle.session_core.specs.Manners.{Manner}
+use Rattle.session_core.specs.Manners as manners
+use Rattle.session_core.specs.Keeping.{KeptSession}
+use Rattle.session_core.specs.Happenings.{Happening, Takes, is_all}
 
 -- the tables and numbers of the acknowledgements that are passed on, in order
 abbrev pub passed_on : List Action → List (ℕ × ℕ)
@@ -27,17 +29,6 @@ Awaits settles s (events.Settled table answer) acts due left =
     × (due ≡ (table, number) ∷ left)
     × (is_all answer ≡ (is_out table (shared s.phase) && settles table number))
 Awaits settles s event acts due left = ⊥
-
--- The session hears bytes and answers, in an event each. The acknowledgements `due` await an answer at first, and `left`
--- at last.
-abbrev pub Hears : (ℕ → ℕ → Bool) → SessionState → List (ℕ × ℕ) → List (Event × List Action) → SessionState → List (ℕ × ℕ) → Type 0
-Hears settles s due [] e left = (e ≡ s) × (left ≡ due)
-Hears settles s due (step ∷ steps) e left =
-    (mid : SessionState)
-    × (rest : List (ℕ × ℕ))
-    × Goes s step.0 step.1 mid
-    × Awaits settles s step.0 step.1 due rest
-    × Hears settles mid rest steps e left
 
 abbrev pub bytes_of : Event → List ℕ
 bytes_of (events.Bytes bytes) = bytes
@@ -65,28 +56,24 @@ without_late settles over (action ∷ acts) = action ∷ without_late settles ov
 abbrev pub told : (ℕ → ℕ → Bool) → List (Event × List Action) → List Action
 told settles steps = without_late settles [] (without_reopens (without_acks (asked_in steps)))
 
--- ---- sessions that stay
+-- ---- a run
 
--- The same of an event in a session that stays. A table may also refuse a number that isn't ahead, which settles nothing.
-abbrev pub AwaitsIn : (ℕ → ℕ → Bool) → StandingState → Event → List Action → List (ℕ × ℕ) → List (ℕ × ℕ) → Type 0
-AwaitsIn settles s (events.Refused table) acts due left =
+-- The same of a session of either manner. A table of one that stays may also refuse a number that isn't ahead, which settles nothing.
+abbrev pub AwaitsIn : (ℕ → ℕ → Bool) → Manner → SessionState → Event → List Action → List (ℕ × ℕ) → List (ℕ × ℕ) → Type 0
+AwaitsIn settles (manners.Staying p) s (events.Refused table) acts due left =
     (number : ℕ)
     × (due ≡ (table, number) ∷ left)
-    × (is_ahead table s.pace.progress ≡ false)
-    × ((is_out table (shared s.session.phase) && settles table number) ≡ false)
-AwaitsIn settles s event acts due left = Awaits settles s.session event acts due left
+    × (is_ahead table p.progress ≡ false)
+    × ((is_out table (shared s.phase) && settles table number) ≡ false)
+AwaitsIn settles manner s event acts due left = Awaits settles s event acts due left
 
--- the same at a moment; only bytes and answers come
-abbrev pub AwaitsAt : (ℕ → ℕ → Bool) → StandingState → Happening → List (ℕ × ℕ) → List (ℕ × ℕ) → Type 0
-AwaitsAt settles s (At now event acts) due left = AwaitsIn settles s event acts due left
-AwaitsAt settles s one due left = ⊥
-
--- a session that stays hears bytes and answers, at any moments
-abbrev pub HearsInTime : (ℕ → ℕ → Bool) → StandingState → List (ℕ × ℕ) → List Happening → StandingState → List (ℕ × ℕ) → Type 0
-HearsInTime settles s due [] e left = (e ≡ s) × (left ≡ due)
-HearsInTime settles s due (one ∷ steps) e left =
-    (mid : StandingState)
+-- The session hears bytes and answers, in an event each, at any moments. The acknowledgements `due` await an answer at first, and `left`
+-- at last.
+abbrev pub Hears : (ℕ → ℕ → Bool) → KeptSession → List (ℕ × ℕ) → List Happening → KeptSession → List (ℕ × ℕ) → Type 0
+Hears settles s due [] e left = (e ≡ s) × (left ≡ due)
+Hears settles s due (one ∷ steps) e left =
+    (mid : KeptSession)
     × (rest : List (ℕ × ℕ))
-    × Happens s one mid
-    × AwaitsAt settles s one due rest
-    × HearsInTime settles mid rest steps e left
+    × Takes s one mid
+    × AwaitsIn settles s.manner s.session one.event one.acts due rest
+    × Hears settles mid rest steps e left

@@ -6,12 +6,11 @@ pub mod Phases
 pub mod Sessions
 pub mod HeardCounts
 pub mod Runs
-pub mod Cutting
 pub mod Paces
 pub mod Standing
 pub mod Manners
 pub mod AskedCounts
 pub mod Keeping
-pub mod StandingRuns
-pub mod StandingSteps
+pub mod Happenings
+pub mod Cutting
 pub mod Hearing

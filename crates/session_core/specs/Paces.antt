@@ -41,7 +41,7 @@ has_passed time since now = nat_le time (now - since)
 
 -- nothing is taught yet
 abbrev pub progress_of : ℕ → List Definition → List Progress
-progress_of now roster = map (λ d. record { table = d.id; names = stores_name d; last = 0; since = now; greatest = 0; acknowledged = None; ahead = false }) roster
+progress_of now roster = map (λ d. record { table = d.id; names = stores_name d; last = 0; since = now; greatest = 0; acknowledged = None; ahead = false; received = None; left = false }) roster
 
 -- the number of a batch: that of its last update
 abbrev pub number_of : Option Update → ℕ
@@ -56,7 +56,7 @@ larger a b = if nat_lt a b then b else a
 
 -- a batch with this number was copied from `table`
 abbrev pub with_copy : ℕ → ℕ → Progress → Progress
-with_copy number now p = record { table = p.table; names = p.names; last = number; since = now; greatest = larger p.greatest number; acknowledged = p.acknowledged; ahead = p.ahead }
+with_copy number now p = record { table = p.table; names = p.names; last = number; since = now; greatest = larger p.greatest number; acknowledged = p.acknowledged; ahead = p.ahead; received = p.received; left = p.left }
 
 abbrev pub copied_in : ℕ → ℕ → ℕ → List Progress → List Progress
 copied_in table number now ps = map (λ p. if p.table == table then with_copy number now p else p) ps
@@ -65,8 +65,8 @@ copied_in table number now ps = map (λ p. if p.table == table then with_copy nu
 abbrev pub with_ack : ℕ → Progress → Progress
 with_ack number p =
     if nat_le number p.greatest
-    then record { table = p.table; names = p.names; last = p.last; since = p.since; greatest = p.greatest; acknowledged = Some number; ahead = p.ahead }
-    else record { table = p.table; names = p.names; last = p.last; since = p.since; greatest = p.greatest; acknowledged = p.acknowledged; ahead = true }
+    then record { table = p.table; names = p.names; last = p.last; since = p.since; greatest = p.greatest; acknowledged = Some number; ahead = p.ahead; received = p.received; left = p.left }
+    else record { table = p.table; names = p.names; last = p.last; since = p.since; greatest = p.greatest; acknowledged = p.acknowledged; ahead = true; received = p.received; left = p.left }
 
 abbrev pub acknowledged_in : ℕ → ℕ → List Progress → List Progress
 acknowledged_in table number ps = map (λ p. if p.table == table then with_ack number p else p) ps
@@ -76,14 +76,29 @@ abbrev pub ack_in : Action → Option (ℕ × ℕ)
 ack_in (actions.Ack table number) = Some (table, number)
 ack_in action = None
 
-abbrev pub noted_one : Option (ℕ × ℕ) → List Progress → List Progress
-noted_one (Some (table, number)) ps = acknowledged_in table number ps
-noted_one None ps = ps
+-- a row with this number is to be learned
+abbrev pub with_row : ℕ → Progress → Progress
+with_row number p = record { table = p.table; names = p.names; last = p.last; since = p.since; greatest = p.greatest; acknowledged = p.acknowledged; ahead = p.ahead; received = Some number; left = p.left }
 
--- the acknowledgements that these actions pass on are noted, in order
+abbrev pub received_in : ℕ → ℕ → List Progress → List Progress
+received_in table number ps = map (λ p. if p.table == table then with_row number p else p) ps
+
+abbrev pub noted_one : Action → List Progress → List Progress
+noted_one (actions.Ack table number) ps = acknowledged_in table number ps
+noted_one (actions.Learn u) ps = received_in u.table u.number ps
+noted_one action ps = ps
+
+-- the acknowledgements that these actions pass on, and the rows to learn, are noted, in order
 abbrev pub noted : List Action → List Progress → List Progress
 noted [] ps = ps
-noted (action ∷ acts) ps = noted acts (noted_one (ack_in action) ps)
+noted (action ∷ acts) ps = noted acts (noted_one action ps)
+
+abbrev pub with_leave : Progress → Progress
+with_leave p = record { table = p.table; names = p.names; last = p.last; since = p.since; greatest = p.greatest; acknowledged = p.acknowledged; ahead = p.ahead; received = p.received; left = true }
+
+-- these tables are left
+abbrev pub left_in : List ℕ → List Progress → List Progress
+left_in tables ps = map (λ p. if list_any (λ table. table == p.table) tables then with_leave p else p) ps
 
 -- the remote peer acknowledged a number of `table` above every one that it was taught
 abbrev pub is_ahead : ℕ → List Progress → Bool

@@ -1,4 +1,4 @@
--- Runs of a session, and what holds when it ends a resync.
+-- What holds of a session from its beginning, and when it ends a resync.
 use Rattle.std.specs.Prelude.{◌≡◌, ◌⊎◌, ℕ, Bool, false, ◌==◌, ◌||◌, List, [], ◌∷◌, ◌++◌, Option, Some, None}
 use Rattle.std.specs.List.{list_any, AllByRecursion}
 use Rattle.table_types.specs.Tables.{Definition}
@@ -18,12 +18,7 @@ use Rattle.session_core.specs.Phases as phases
 use Rattle.session_core.specs.Actions.{control_text, confirms}
 use Rattle.session_core.specs.Shares.{any_out}
 use Rattle.session_core.specs.Courses.{Course}
-use Rattle.session_core.specs.Sessions.{SessionState, Goes, connecting, accepting, falls_back}
-
--- the events of a run in order, each with the actions that it asked for
-abbrev pub Runs : SessionState → List (Event × List Action) → SessionState → Type 0
-Runs s [] e = e ≡ s
-Runs s (step ∷ steps) e = (mid : SessionState) × Goes s step.0 step.1 mid × Runs mid steps e
+use Rattle.session_core.specs.Sessions.{SessionState, connecting, accepting, falls_back}
 
 -- a new session for the roster
 abbrev pub IsBegun : List Definition → SessionState → Type 0

@@ -47,7 +47,7 @@ use Rattle.session_core.specs.declared.handshake.Handshake.TheVariants as handsh
 use Rattle.session_core.specs.declared.share.Share.{Share}
 use Rattle.session_core.specs.Shares.{all_quiet, out_set, quiet_set}
 use Rattle.session_core.specs.Actions.{sends_control, status_text, reopens, confirms}
-use Rattle.session_core.specs.Courses.{Course, course_begun, course_fed, is_held, teaching_anew, ReceivesAll, acks_sent, acks_given, kind_of, table_to_ask, is_due, none_due, Answered, finished, state_of_course}
+use Rattle.session_core.specs.Courses.{Course, course_begun, course_fed, caught_up, is_held, teaching_anew, ReceivesAll, acks_sent, acks_given, kind_of, table_to_ask, is_due, none_due, Answered, finished, state_of_course}
 
 -- A session's phase; what it knows of the remote peer as a learner; the fault in the remote peer's messages that ended
 -- it, if any; whether it sent resync confirmed; the version that both peers speak, once the hello is done; and whether it
@@ -156,6 +156,9 @@ ReceivesBytes s c first acts e =
 abbrev pub GoesNew : SessionState → Hello → Course → Event → List Action → SessionState → Type 0
 GoesNew s hello c events.Opened acts e = (acts ≡ actions.Send (hello_text hello) ∷ []) × (e ≡ in_phase s (phases.Hello (greeters.Connects hello.version) [] c))
 GoesNew s hello c events.Turn acts e = Stays s (phases.New hello c) acts e
+GoesNew s hello c events.Tick acts e = Stays s (phases.New hello c) acts e
+GoesNew s hello c events.Ask acts e = Stays s (phases.New hello c) acts e
+GoesNew s hello c events.CaughtUp acts e = Stays s (phases.New hello (caught_up c)) acts e
 GoesNew s hello c events.End acts e = Closes s acts e
 GoesNew s hello c events.ReadFault acts e = Closes s acts e
 GoesNew s hello c events.WriteFault acts e = Closes s acts e
@@ -221,6 +224,9 @@ Follows (handshakes.Refused given falls) s greeter bytes c acts e = (acts ≡ gi
 abbrev pub GoesHello : SessionState → Greeter → List ℕ → Course → Event → List Action → SessionState → Type 0
 GoesHello s greeter bytes c (events.Bytes piece) acts e = Greets s greeter (bytes ++ piece) c acts e
 GoesHello s greeter bytes c events.Turn acts e = Stays s (phases.Hello greeter bytes c) acts e
+GoesHello s greeter bytes c events.Tick acts e = Stays s (phases.Hello greeter bytes c) acts e
+GoesHello s greeter bytes c events.Ask acts e = Stays s (phases.Hello greeter bytes c) acts e
+GoesHello s greeter bytes c events.CaughtUp acts e = Stays s (phases.Hello greeter bytes (caught_up c)) acts e
 GoesHello s greeter bytes c events.End acts e = Closes s acts e
 GoesHello s greeter bytes c events.ReadFault acts e = Closes s acts e
 GoesHello s greeter bytes c events.WriteFault acts e = Closes s acts e
@@ -234,6 +240,10 @@ Turns None s c acts e = Stays s (phases.Open c) acts e
 Turns (Some table) s c acts e =
     (acts ≡ actions.Copy table (kind_of c.stays c.teaching) ∷ [])
     × (e ≡ going s (record c { asked = Some table; due = dues.Copy table ∷ [] }))
+
+-- this node requests a resync
+abbrev pub Requests : SessionState → Course → List Action → SessionState → Type 0
+Requests s c acts e = (acts ≡ sends_control controls.ResyncRequest ∷ []) × (e ≡ going s c)
 
 -- a batch was copied: it is outstanding, and its lesson is to be written
 abbrev pub IsCopied : SessionState → Course → ℕ → List Update → List Action → SessionState → Type 0
@@ -263,6 +273,9 @@ Settles settled s c table acts e = Stays s (phases.Open c) acts e
 
 abbrev pub GoesOpen : SessionState → Course → Event → List Action → SessionState → Type 0
 GoesOpen s c events.Turn acts e = (c.due ≡ []) × Turns (table_to_ask c) s c acts e
+GoesOpen s c events.Tick acts e = (c.due ≡ []) × Stays s (phases.Open c) acts e
+GoesOpen s c events.Ask acts e = (c.due ≡ []) × Requests s c acts e
+GoesOpen s c events.CaughtUp acts e = (c.due ≡ []) × Stays s (phases.Open (caught_up c)) acts e
 GoesOpen s c (events.Bytes bytes) acts e = (c.due ≡ []) × ReceivesBytes s (course_fed c bytes) [] acts e
 GoesOpen s c (events.Copied table batch) acts e = (mid : Course) × Answered c (dues.Copy table) mid × IsCopied s mid table batch acts e
 GoesOpen s c (events.Nothing table) acts e = (mid : Course) × Answered c (dues.Copy table) mid × HasNothing mid.teaching s mid table acts e
@@ -300,9 +313,12 @@ Goes s event acts e = GoesIn s.phase s event acts e
 
 -- ---- refusals
 
--- whether an open session may receive the event: an answer if it is the first due, bytes and a turn if none is due
+-- whether an open session may receive the event: an answer if it is the first due; bytes, a turn and what is like one if none is due
 abbrev pub is_asked_open : List Due → Event → Bool
 is_asked_open due events.Turn = none_due due
+is_asked_open due events.Tick = none_due due
+is_asked_open due events.Ask = none_due due
+is_asked_open due events.CaughtUp = none_due due
 is_asked_open due (events.Bytes bytes) = none_due due
 is_asked_open due (events.Copied table batch) = is_due (dues.Copy table) due
 is_asked_open due (events.Nothing table) = is_due (dues.Copy table) due
@@ -315,6 +331,9 @@ is_asked_open due event = true
 abbrev pub is_asked_new : Event → Bool
 is_asked_new events.Opened = true
 is_asked_new events.Turn = true
+is_asked_new events.Tick = true
+is_asked_new events.Ask = true
+is_asked_new events.CaughtUp = true
 is_asked_new events.End = true
 is_asked_new events.ReadFault = true
 is_asked_new events.WriteFault = true
@@ -323,6 +342,9 @@ is_asked_new event = false
 abbrev pub is_asked_hello : Event → Bool
 is_asked_hello (events.Bytes bytes) = true
 is_asked_hello events.Turn = true
+is_asked_hello events.Tick = true
+is_asked_hello events.Ask = true
+is_asked_hello events.CaughtUp = true
 is_asked_hello events.End = true
 is_asked_hello events.ReadFault = true
 is_asked_hello events.WriteFault = true

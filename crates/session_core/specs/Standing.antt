@@ -1,6 +1,6 @@
 -- A session that stays: what it does by the clock, and how it hands each event on to the machine of its session (HAProxy,
 -- doc/peers-v2.0.txt, "Control Messages"; the times are this node's own).
-use Rattle.std.specs.Prelude.{◌≡◌, ℕ, Bool, true, false, not, ◌==◌, ◌&&◌, ◌||◌, List, [], ◌∷◌, ◌++◌, filter, Some, if◌then◌else◌}
+use Rattle.std.specs.Prelude.{◌≡◌, ℕ, Bool, true, false, not, ◌==◌, ◌&&◌, ◌||◌, List, [], ◌∷◌, ◌++◌, filter, map, Some, if◌then◌else◌}
 use Rattle.std.specs.List.{list_any}
 use Rattle.table_types.specs.declared.copies.Settled.TheVariants as settles
 use Rattle.peers_msg.specs.declared.control.Control.TheVariants as controls
@@ -20,7 +20,7 @@ use Rattle.session_core.specs.Shares.{any_out, all_quiet}
 use Rattle.session_core.specs.Actions.{reopens, sends_control}
 use Rattle.session_core.specs.Courses.{Course, staying, teaching_anew, ack_received, finished, table_to_ask}
 use Rattle.session_core.specs.Sessions.{SessionState, Goes, seen, in_phase, going, ended, is_asked}
-use Rattle.session_core.specs.Paces.{Pace, heartbeat_time, silence_time, push_time, has_passed, pace_at, renewed, is_rested, copied_in, last_number, noted, is_ahead, inferred, tables_to_leave, awaits_names}
+use Rattle.session_core.specs.Paces.{Pace, heartbeat_time, silence_time, push_time, has_passed, pace_at, renewed, is_rested, copied_in, last_number, noted, is_ahead, inferred, tables_to_leave, left_in, awaits_names}
 
 pub record StandingState : Type 0 where
   pub session : SessionState
@@ -147,17 +147,6 @@ abbrev pub answer_of_refusal : Bool → ℕ → Event
 answer_of_refusal true table = events.Refused table
 answer_of_refusal false table = events.Settled table settles.Older
 
--- at `event`, at the moment `now`, the session that stays becomes `e`, and asks for the actions `acts`
-abbrev pub Stands : StandingState → ℕ → Event → List Action → StandingState → Type 0
-Stands s now (events.Bytes bytes) acts e = Listens s now bytes acts e
-Stands s now events.Turn acts e = TakesTurn s.session.phase s now acts e
-Stands s now (events.Copied table batch) acts e =
-    Goes s.session (events.Copied table batch) acts e.session
-    × (e.pace ≡ record (paced s.session.phase now (events.Copied table batch) acts s.pace) { progress = copied_in table (last_number batch) now s.pace.progress })
-Stands s now (events.Written known) acts e = Writes s.session.phase s now known acts e
-Stands s now (events.Refused table) acts e = HandsOn s now (answer_of_refusal (is_ahead table s.pace.progress) table) acts e
-Stands s now event acts e = HandsOn s now event acts e
-
 -- ---- a tick
 
 -- the tables are left: the session no longer shares them, and its resyncs end as partial from then on
@@ -182,9 +171,9 @@ abbrev pub heartbeats : Bool → List Action
 heartbeats true = sends_control controls.Heartbeat ∷ []
 heartbeats false = []
 
--- At a tick, a session that has received nothing for too long closes. Any other open session leaves the tables `left` first, in which it
--- is to be closed and opened anew, forgets all names if it leaves a table, and then asks for the actions `acts`: the end of a resync, if
--- only these tables held it up, and a heartbeat, if it has sent nothing for too long.
+-- At a tick, a session that has received nothing for too long closes. Any other open session leaves the tables `left` first, forgets all
+-- names if it leaves a table, and then asks for the actions `acts`: the end of a resync, if only these tables held it up, and a heartbeat,
+-- if it has sent nothing for too long.
 abbrev pub TicksIn : Bool → Phase → StandingState → ℕ → List ℕ → List Action → StandingState → Type 0
 TicksIn true phase s now left acts e =
     (left ≡ []) × (acts ≡ actions.Close ∷ []) × (e.session ≡ ended s.session) × (e.pace ≡ s.pace)
@@ -192,26 +181,40 @@ TicksIn false (phases.Open c) s now left acts e =
     (left ≡ tables_to_leave now s.pace.progress c.shares)
     × (acts ≡ (leaving left c).0 ++ heartbeats (has_passed heartbeat_time s.pace.sent now))
     × (e.session ≡ going (forgetting left s.session) (leaving left c).1)
-    × (e.pace ≡ record s.pace { sent = renewed (list_any is_send acts) now s.pace.sent; left = any_left left || s.pace.left })
+    × (e.pace ≡ record s.pace { sent = renewed (list_any is_send acts) now s.pace.sent; left = any_left left || s.pace.left; progress = left_in left s.pace.progress })
 TicksIn false phase s now left acts e = (left ≡ []) × (acts ≡ []) × (e ≡ s)
 
+abbrev pub reopening : List ℕ → List Action
+reopening tables = map (λ table. actions.Reopen table) tables
+
+-- the tables that the tick leaves are reopened before anything else
+abbrev pub TicksAs : Bool → Phase → StandingState → ℕ → List Action → StandingState → Type 0
+TicksAs silent phase s now acts e =
+    (left : List ℕ) × (rest : List Action) × TicksIn silent phase s now left rest e × (acts ≡ reopening left ++ rest)
+
 -- a tick may come whenever a turn may
-abbrev pub Ticks : StandingState → ℕ → List ℕ → List Action → StandingState → Type 0
-Ticks s now left acts e =
-    (is_asked s.session.phase events.Turn ≡ true)
-    × TicksIn (has_passed silence_time s.pace.heard now) s.session.phase s now left acts e
+abbrev pub TakesTick : StandingState → ℕ → List Action → StandingState → Type 0
+TakesTick s now acts e =
+    (is_asked s.session.phase events.Tick ≡ true)
+    × TicksAs (has_passed silence_time s.pace.heard now) s.session.phase s now acts e
 
--- ---- bytes that the session didn't ask for
+-- ---- any event
 
-abbrev pub sent_at : ℕ → StandingState → StandingState
-sent_at now s = record { session = s.session; pace = record s.pace { sent = now } }
+-- Word that this node is up to date is handed on, unless a table was left: resyncs end as partial then, and nothing changes, as at a
+-- tick of a plain session.
+abbrev pub word_of : Bool → Event
+word_of true = events.Tick
+word_of false = events.CaughtUp
 
--- ---- a node that becomes up to date
-
--- resyncs end as finished from then on, unless a table was left
-abbrev pub caught_up_in : Bool → Course → Course
-caught_up_in left c = record c { up_to_date = c.up_to_date || not left }
-
--- this node is up to date from then on
-abbrev pub caught_up : StandingState → StandingState
-caught_up s = record { session = in_phase s.session (changed (caught_up_in s.pace.left) s.session.phase); pace = s.pace }
+-- at `event`, at the moment `now`, the session that stays becomes `e`, and asks for the actions `acts`
+abbrev pub Stands : StandingState → ℕ → Event → List Action → StandingState → Type 0
+Stands s now (events.Bytes bytes) acts e = Listens s now bytes acts e
+Stands s now events.Turn acts e = TakesTurn s.session.phase s now acts e
+Stands s now (events.Copied table batch) acts e =
+    Goes s.session (events.Copied table batch) acts e.session
+    × (e.pace ≡ record (paced s.session.phase now (events.Copied table batch) acts s.pace) { progress = copied_in table (last_number batch) now s.pace.progress })
+Stands s now (events.Written known) acts e = Writes s.session.phase s now known acts e
+Stands s now (events.Refused table) acts e = HandsOn s now (answer_of_refusal (is_ahead table s.pace.progress) table) acts e
+Stands s now events.Tick acts e = TakesTick s now acts e
+Stands s now events.CaughtUp acts e = HandsOn s now (word_of s.pace.left) acts e
+Stands s now event acts e = HandsOn s now event acts e

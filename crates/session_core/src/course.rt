@@ -4,7 +4,7 @@ ghost use Rattle.std.specs.Prelude.{◌≡◌, ◌++◌, Some, None, Ok, true, f
 ghost use Rattle.session_core.specs.declared.error.SessionError.TheVariants as errors;
 ghost use Rattle.session_core.specs.Shares.{out_set, quiet_set, unquieted};
 ghost use Rattle.session_core.specs.Actions.{reopens};
-ghost use Rattle.session_core.specs.Courses.{course_begun, is_held, kind_of, staying, teaching_anew, table_to_ask, is_due, none_due, Answered, finished, state_of_course};
+ghost use Rattle.session_core.specs.Courses.{course_begun, caught_up, is_held, kind_of, staying, teaching_anew, table_to_ask, is_due, none_due, Answered, finished, state_of_course};
 ghost use Rattle.session_core.specs.Sessions.{first_word, opening};
 
 use crate::action::{Action, push};
@@ -95,6 +95,13 @@ impl Course {
             reader: self.reader.tolerate(),
             ..self
         }
+    }
+
+    /// Makes resyncs end as finished from now on.
+    pub(crate) fn catch_up(&mut self)
+        ensures { self.new ≡ caught_up self.old }
+    {
+        self.up_to_date = true;
     }
 
     /// Returns whether a resync request is deferred: while a batch is outstanding, and always if the session stays.

@@ -16,6 +16,12 @@ pub enum Event {
     ReadFault,
     /// There is nothing else to do: the session may ask for a batch.
     Turn,
+    /// Some time has passed: the session may ask for what is due by the clock.
+    Tick,
+    /// This node wants every row: the session requests a resync, if it is open.
+    Ask,
+    /// This node is up to date from now on.
+    CaughtUp,
     /// The answer to `Copy`: this batch was copied from the table with this id. The batch isn't empty and all its
     /// updates belong to that table; the session checks neither.
     Copied(u64, Batch),

@@ -1,10 +1,10 @@
 //! How a session that stays changes its course.
 
-ghost use Rattle.std.specs.Prelude.{◌≡◌, ◌==◌, ◌++◌, not, filter, OnOk};
+ghost use Rattle.std.specs.Prelude.{◌≡◌, ◌==◌, ◌++◌, not, filter, IfOk, OnOk};
 ghost use Rattle.std.specs.List.{list_any};
-ghost use Rattle.session_core.specs.Standing.{begun_resync, caught_up_in, finishing, leaving, without_tables};
+ghost use Rattle.session_core.specs.Standing.{begun_resync, finishing, leaving, reopening, without_tables};
 
-use crate::action::Action;
+use crate::action::{Action, push};
 use crate::course::Course;
 use crate::receiving::push_control;
 use crate::share::{Share, all_quiet};
@@ -16,6 +16,17 @@ fn remove(shares: &mut Vec<Share>, tables: &[u64])
     ensures { shares.new.items ≡ filter (λ s. not (list_any (λ table. table == s.table) tables.now)) shares.old.items }
 {
     shares.retain(|share| !tables.contains(&share.table));
+}
+
+/// Returns a `Reopen` for each of the tables.
+pub(crate) fn reopening(alloc: Global, tables: &[u64]) -> Result<Vec<Action>, Memory>
+    ensures { IfOk result (λ actions. actions.items ≡ reopening tables.now) }
+{
+    let mut actions = Vec::new(alloc);
+    for table in tables {
+        push(&mut actions, Action::Reopen(*table))?;
+    }
+    Ok(actions)
 }
 
 impl Course {
@@ -67,12 +78,5 @@ impl Course {
         }
         self.leave(tables);
         self.finish(alloc, actions)
-    }
-
-    /// Makes resyncs end as finished from now on, unless a table was left, as `left` says.
-    pub(crate) fn catch_up(&mut self, left: bool)
-        ensures { self.new ≡ caught_up_in left self.old }
-    {
-        self.up_to_date = self.up_to_date || !left;
     }
 }

@@ -23,7 +23,6 @@ use crate::handshake::{Handshake, after, greeting};
 use crate::heard::Heard;
 use crate::phase::{Greeter, Stage};
 use crate::state::State;
-use crate::ticked::Ticked;
 use known_state::Known;
 use learner::Fault;
 use peers_msg::{Breach, ErrorKind};
@@ -100,38 +99,17 @@ impl Machine {
         given
     }
 
-    /// Fails if no turn may come: with `Ended` if the session is over, and with `Unasked` while an answer is due.
-    pub(crate) fn check_turn(&self) -> Result<(), SessionError>
-        ensures asked { OnOk result (is_asked (phase_of self.now.stage self.now.course) events.Turn ≡ true) }
-        ensures refused { IfErr result (λ e. Refuses (phase_of self.now.stage self.now.course) events.Turn e) }
-        ensures exactly { (e : SessionError) → e ≢ errors.Memory → Refuses (phase_of self.now.stage self.now.course) events.Turn e → result ≡ Err e }
+    /// Fails if no tick may come: with `Ended` if the session is over, and with `Unasked` while an answer is due.
+    pub(crate) fn check_tick(&self) -> Result<(), SessionError>
+        ensures asked { OnOk result (is_asked (phase_of self.now.stage self.now.course) events.Tick ≡ true) }
+        ensures refused { IfErr result (λ e. Refuses (phase_of self.now.stage self.now.course) events.Tick e) }
+        ensures exactly { (e : SessionError) → e ≢ errors.Memory → Refuses (phase_of self.now.stage self.now.course) events.Tick e → result ≡ Err e }
     {
         match &self.stage {
             Stage::New(_) | Stage::Hello(_, _) => Ok(()),
             Stage::Open if self.course.none_due() => Ok(()),
             Stage::Open => Err(SessionError::Unasked),
             Stage::Ended => Err(SessionError::Ended),
-        }
-    }
-
-    /// Makes the step at a tick, which may come whenever a turn may, and does nothing. After an error the session is over.
-    pub(crate) fn on_tick(&mut self, alloc: Global) -> Result<Ticked, SessionError>
-        ensures asked { OnOk result (is_asked (phase_of self.old.stage self.old.course) events.Turn ≡ true) }
-        ensures nothing { IfOk result (λ t. (t.left.items ≡ []) × (t.actions.items ≡ [])) }
-        ensures same { OnOk result (self.new ≡ self.old) }
-        ensures refused { IfErr result (λ e. Refuses (phase_of self.old.stage self.old.course) events.Turn e) }
-        ensures exactly { (e : SessionError) → e ≢ errors.Memory → Refuses (phase_of self.old.stage self.old.course) events.Turn e → result ≡ Err e }
-        ensures ended { OnErr result ((seen self.new ≡ ended (seen self.old)) × (self.new.heard ≡ self.old.heard)) }
-    {
-        match self.check_turn() {
-            Ok(()) => Ok(Ticked {
-                left: Vec::new(alloc),
-                actions: Vec::new(alloc),
-            }),
-            Err(error) => {
-                self.stage = Stage::Ended;
-                Err(error)
-            }
         }
     }
 
@@ -152,7 +130,11 @@ impl Machine {
                     self.stage = Stage::Hello(greeter, Vec::new(alloc));
                     Ok(actions)
                 }
-                Event::Turn => Ok(Vec::new(alloc)),
+                Event::Turn | Event::Tick | Event::Ask => Ok(Vec::new(alloc)),
+                Event::CaughtUp => {
+                    self.course.catch_up();
+                    Ok(Vec::new(alloc))
+                }
                 Event::End | Event::ReadFault | Event::WriteFault => self.close(alloc),
                 _ => Err(SessionError::Unasked),
             },
@@ -205,7 +187,11 @@ impl Machine {
                     }
                 }
             }
-            Event::Turn => Ok(Vec::new(alloc)),
+            Event::Turn | Event::Tick | Event::Ask => Ok(Vec::new(alloc)),
+            Event::CaughtUp => {
+                self.course.catch_up();
+                Ok(Vec::new(alloc))
+            }
             Event::End | Event::ReadFault | Event::WriteFault => self.close(alloc),
             _ => Err(SessionError::Unasked),
         }
@@ -221,6 +207,9 @@ impl Machine {
     {
         match event {
             Event::Turn => self.course.turn(alloc),
+            Event::Tick => self.course.tick(alloc),
+            Event::Ask => self.course.ask(alloc),
+            Event::CaughtUp => self.course.caught_up(alloc),
             Event::Bytes(bytes) => self.receive(alloc, bytes.as_slice()),
             Event::Copied(table, batch) => self.course.copied(alloc, table, batch),
             Event::Nothing(table) => self.course.nothing(alloc, table),

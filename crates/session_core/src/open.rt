@@ -12,6 +12,7 @@ use crate::due::Due;
 use crate::error::SessionError;
 use crate::receiving::only_control;
 use crate::share::all_quiet;
+use peers_msg::Control;
 use std::alloc::Global;
 use table_types::{Batch, Memory, Settled};
 
@@ -33,6 +34,40 @@ impl Course {
             }
             None => Ok(Vec::new(alloc)),
         }
+    }
+
+    /// Handles a tick, at which only a session that stays does anything.
+    pub(crate) fn tick(&mut self, alloc: Global) -> Result<Vec<Action>, SessionError>
+        ensures goes { (s : SessionState) → IfOk result (λ acts. GoesOn s self.old events.Tick acts.items self.new) }
+        ensures refused { IfErr result (λ e. IsWhy (none_due self.old.due) e) }
+    {
+        if !self.none_due() {
+            return Err(SessionError::Unasked);
+        }
+        Ok(Vec::new(alloc))
+    }
+
+    /// Requests a resync.
+    pub(crate) fn ask(&mut self, alloc: Global) -> Result<Vec<Action>, SessionError>
+        ensures goes { (s : SessionState) → IfOk result (λ acts. GoesOn s self.old events.Ask acts.items self.new) }
+        ensures refused { IfErr result (λ e. IsWhy (none_due self.old.due) e) }
+    {
+        if !self.none_due() {
+            return Err(SessionError::Unasked);
+        }
+        Ok(only_control(alloc, Control::ResyncRequest)?)
+    }
+
+    /// Handles word that this node is up to date.
+    pub(crate) fn caught_up(&mut self, alloc: Global) -> Result<Vec<Action>, SessionError>
+        ensures goes { (s : SessionState) → IfOk result (λ acts. GoesOn s self.old events.CaughtUp acts.items self.new) }
+        ensures refused { IfErr result (λ e. IsWhy (none_due self.old.due) e) }
+    {
+        if !self.none_due() {
+            return Err(SessionError::Unasked);
+        }
+        self.catch_up();
+        Ok(Vec::new(alloc))
     }
 
     /// Handles a batch that was copied from `table`: marks it as outstanding and asks for its lesson.

@@ -2,12 +2,12 @@
 
 ghost use Rattle.std.specs.Prelude.{◌≡◌, ◌||◌, ◌&&◌, Some, true, false, not, IfOk};
 ghost use Rattle.session_core.specs.Shares.{any_out};
-ghost use Rattle.session_core.specs.Paces.{pace_at, renewed, is_rested, has_passed, push_time, awaits_names};
+ghost use Rattle.session_core.specs.Paces.{pace_at, renewed, is_rested, has_passed, push_time, left_in, awaits_names};
 ghost use Rattle.session_core.specs.Courses.{table_to_ask};
-ghost use Rattle.session_core.specs.Standing.{task_at};
+ghost use Rattle.session_core.specs.Standing.{any_left, task_at};
 
 use crate::course::Course;
-use crate::progress::{Progress, awaits_names, progress_of};
+use crate::progress::{Progress, awaits_names, note_left, progress_of};
 use crate::share::any_out;
 use crate::times;
 use crate::times::has_passed;
@@ -42,6 +42,13 @@ pub(crate) struct Pace {
     pub(crate) left: bool,
     /// The progress in each table, in roster order.
     pub(crate) progress: Vec<Progress>,
+}
+
+/// Returns whether there are tables that are left.
+pub(crate) fn any_left(left: &[u64]) -> bool
+    ensures { result ≡ any_left left.now }
+{
+    !left.is_empty()
 }
 
 impl Model for Pace {
@@ -82,11 +89,14 @@ impl Pace {
         }
     }
 
-    /// Notes whether a table was left.
-    pub(crate) fn leave(&mut self, left: bool)
-        ensures { self.new ≡ record self.old { left = left || self.old.left } }
+    /// Notes that these tables are left, if there are any.
+    pub(crate) fn leave(&mut self, tables: &[u64])
+        ensures { self.new ≡ record self.old { left = any_left tables.now || self.old.left; progress = left_in tables.now self.old.progress } }
     {
-        self.left = left || self.left;
+        if any_left(tables) {
+            self.left = true;
+        }
+        note_left(self.progress.as_mut_slice(), tables);
     }
 
     /// Returns whether the last resync, if there was one, began long enough ago.

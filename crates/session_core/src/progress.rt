@@ -1,7 +1,7 @@
 //! How far the remote peer has acknowledged what it was taught.
 
 ghost use Rattle.std.specs.Prelude.{◌≡◌, IfOk};
-ghost use Rattle.session_core.specs.Paces.{progress_of, last_number, copied_in, acknowledged_in, noted, is_ahead, is_number, inferred, is_overdue, tables_to_leave, stores_names, may_lose_names, awaits_names};
+ghost use Rattle.session_core.specs.Paces.{progress_of, last_number, copied_in, acknowledged_in, received_in, noted_one, noted, left_in, is_ahead, is_number, inferred, is_overdue, tables_to_leave, stores_names, may_lose_names, awaits_names};
 ghost use Rattle.std.specs.List.{list_any};
 
 use crate::action::Action;
@@ -13,21 +13,25 @@ use table_types::{Batch, Memory, TableDef};
 
 /// What was taught of a table on this connection, and what the remote peer acknowledged of it.
 #[derive(Clone, Copy, Debug)]
-pub(crate) struct Progress {
+pub struct Progress {
     /// The table's id.
-    pub(crate) table: u64,
+    pub table: u64,
     /// Whether the table stores the server's name.
-    pub(crate) names: bool,
-    /// The number of the latest batch: that of its last update.
-    pub(crate) last: u32,
+    pub names: bool,
+    /// The number of the latest batch: that of its last update, or 0.
+    pub last: u32,
     /// The moment at which that batch was copied.
-    pub(crate) since: u64,
+    pub since: u64,
     /// The greatest number of a batch.
-    pub(crate) greatest: u32,
+    pub greatest: u32,
     /// The number that the remote peer acknowledged last, of those up to the greatest.
-    pub(crate) acknowledged: Option<u32>,
+    pub acknowledged: Option<u32>,
     /// Whether the remote peer acknowledged a number above the greatest.
-    pub(crate) ahead: bool,
+    pub ahead: bool,
+    /// The number of the last update to learn, if there was one.
+    pub received: Option<u32>,
+    /// Whether the session left the table.
+    pub left: bool,
 }
 
 /// Returns the progress in tables of which nothing is taught yet.
@@ -48,6 +52,8 @@ pub(crate) fn progress_of(
             greatest: 0,
             acknowledged: None,
             ahead: false,
+            received: None,
+            left: false,
         })?;
     }
     Ok(progress)
@@ -93,13 +99,49 @@ fn note_ack(progress: &mut [Progress], table: u64, number: u32)
     }
 }
 
-/// Notes the acknowledgements that the actions pass on.
-pub(crate) fn note_acks(progress: &mut Vec<Progress>, actions: &[Action])
+/// Notes that a row of `table` with this number is to be learned.
+fn note_row(progress: &mut [Progress], table: u64, number: u32)
+    ensures { progress.new ≡ received_in table number progress.old }
+{
+    for entry in progress.iter_mut() {
+        if entry.table == table {
+            entry.received = Some(number);
+        }
+    }
+}
+
+/// Notes an action: an acknowledgement to pass on, or a row to learn.
+fn note_one(progress: &mut [Progress], action: &Action)
+    ensures { progress.new ≡ noted_one action.now progress.old }
+{
+    match action {
+        Action::Ack { table, number } => note_ack(progress, *table, *number),
+        Action::Learn(update) => note_row(progress, update.table, update.number),
+        Action::Send(_)
+        | Action::Reopen(_)
+        | Action::Copy { table: _, kind: _ }
+        | Action::Teach(_)
+        | Action::Part(_)
+        | Action::Close => {}
+    }
+}
+
+/// Notes the acknowledgements that the actions pass on, and the rows to learn.
+pub(crate) fn note_actions(progress: &mut Vec<Progress>, actions: &[Action])
     ensures { progress.new.items ≡ noted actions.now progress.old.items }
 {
     for action in actions {
-        if let Action::Ack { table, number } = action {
-            note_ack(progress.as_mut_slice(), *table, *number);
+        note_one(progress.as_mut_slice(), action);
+    }
+}
+
+/// Notes that these tables are left.
+pub(crate) fn note_left(progress: &mut [Progress], left: &[u64])
+    ensures { progress.new ≡ left_in left.now progress.old }
+{
+    for entry in progress.iter_mut() {
+        if left.contains(&entry.table) {
+            entry.left = true;
         }
     }
 }

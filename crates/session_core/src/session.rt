@@ -3,14 +3,13 @@
 ghost use Rattle.std.specs.Prelude.{◌≡◌, ◌≢◌, Err, IfOk, IfErr, OnErr, option_copied, option_map};
 ghost use Rattle.session_core.specs.declared.error.SessionError.{SessionError};
 ghost use Rattle.session_core.specs.declared.error.SessionError.TheVariants as errors;
-ghost use Rattle.session_core.specs.declared.event.Event.TheVariants as events;
-ghost use Rattle.session_core.specs.AskedCounts.{asked_as};
 ghost use Rattle.session_core.specs.Courses.{reading_of};
-ghost use Rattle.session_core.specs.Keeping.{IsTicked, Steps, catching_up, is_any_ahead, is_staying, kept_from, noting_sent, plain};
+ghost use Rattle.session_core.specs.Keeping.{Steps, is_any_ahead, is_staying, kept_from, plain, progress_in};
 ghost use Rattle.session_core.specs.Sessions.{Refuses, connecting, accepting, ended, open_course, state_of};
 
 use crate::action::Action;
 use crate::controls::Controls;
+use crate::counts::Counts;
 use crate::course::Course;
 use crate::error::SessionError;
 use crate::event::Event;
@@ -18,11 +17,9 @@ use crate::heard::Heard;
 use crate::machine::Machine;
 use crate::pace::Pace;
 use crate::phase::{Greeter, Stage};
-use crate::progress::any_ahead;
+use crate::progress::{Progress, any_ahead};
 use crate::state::State;
 use crate::stay::Stay;
-use crate::tally::{Counts, TableTally, Tally};
-use crate::ticked::Ticked;
 use known_state::Known;
 use learner::Fault;
 use peers_hello::Hello;
@@ -43,7 +40,7 @@ use tolerant_intake::{PassedOver, Reader};
 /// | `Ack` | `Settled`, or `Refused` if the number is above every number taught |
 ///
 /// The caller performs the actions before a `Close` or a `Part` too, but doesn't answer them. `End`, `ReadFault` and
-/// `WriteFault` may happen whenever the session isn't over.
+/// `WriteFault` may happen whenever the session isn't over; `Tick`, `Ask` and `CaughtUp` whenever `Turn` may.
 ///
 /// A session is kept in one of two manners. A *plain* one is made by `connect` or `accept`; its events alone decide what it does.
 /// One that *stays* is made by `stay`, for as long as its connection lasts. It requests no resync by itself, leaves the beginning of
@@ -72,11 +69,14 @@ pub struct Session {
 }
 
 impl Model for Session {
-    ghost use Rattle.session_core.specs.Keeping.{KeptSession, seen_as};
+    ghost use Rattle.session_core.specs.Keeping.{AreKeptAs, KeptSession, is_staying, manner_of, seen_as};
+    ghost use Rattle.session_core.specs.Sessions.{phase_of};
 
     ghost Value = { KeptSession };
 
     ghost view = { λ s. seen_as s.machine s.stay };
+
+    ghost invariant = { λ s. AreKeptAs (is_staying (manner_of s.stay)) (phase_of s.machine.stage s.machine.course) };
 }
 
 impl Session {
@@ -153,8 +153,8 @@ impl Session {
             ..
         } = self;
         let pace = Pace::new(alloc, machine.known.roster(), now.milliseconds())?;
-        let tally = Tally::new(alloc, machine.known.roster())?;
-        let stay = Box::new(alloc, Stay { pace, tally })?;
+        let counts = Counts::none();
+        let stay = Box::new(alloc, Stay { pace, counts })?;
         machine.course = machine.course.stay();
         Ok(Session {
             alloc,
@@ -242,28 +242,25 @@ impl Session {
     {
         match &self.stay {
             None => Counts::none(),
-            Some(stay) => stay.tally.counts,
+            Some(stay) => stay.counts,
         }
     }
 
-    /// Returns what the session asked for in each table since it began to stay, in roster order; of a plain session nothing. No
-    /// contract says what is noted.
-    pub fn tables(&self) -> &[TableTally] {
+    /// Returns what was taught of each table and acknowledged since the session began to stay, in roster order; of a plain session nothing.
+    pub fn progress(&self) -> &[Progress]
+        ensures { result.now ≡ progress_in self.now.manner }
+    {
         match &self.stay {
             None => &[],
-            Some(stay) => stay.tally.tables.as_slice(),
+            Some(stay) => stay.pace.progress.as_slice(),
         }
     }
 
-    /// Returns whether the remote peer acknowledged a number above every one that it was taught on this connection, which only a
-    /// session that stays notes.
+    /// Returns whether an acknowledgement that was passed on had a number above every one copied from its table since the session stays.
     pub fn is_ahead(&self) -> bool
         ensures { result ≡ is_any_ahead self.now.manner }
     {
-        match &self.stay {
-            None => false,
-            Some(stay) => any_ahead(stay.pace.progress.as_slice()),
-        }
+        any_ahead(self.progress())
     }
 
     /// Returns the actions to perform at `event`, in order. The moment makes no difference to a plain session.
@@ -273,7 +270,6 @@ impl Session {
     /// as it was.
     pub fn on(&mut self, event: Event, now: Moment) -> Result<Vec<Action>, SessionError>
         ensures steps { IfOk result (λ acts. Steps self.old now event acts.items self.new) }
-        ensures counted { IfOk result (λ acts. self.new.counts ≡ asked_as self.old.manner acts.items self.old.counts) }
         ensures refused { IfErr result (λ e. Refuses self.old.session.phase event e) }
         ensures exactly { (e : SessionError) → e ≢ errors.Memory → Refuses self.old.session.phase event e → result ≡ Err e }
         ensures ended { OnErr result (self.new ≡ record self.old { session = ended self.old.session }) }
@@ -282,42 +278,6 @@ impl Session {
         match &mut self.stay {
             None => self.machine.on(self.alloc, event),
             Some(stay) => stay.on(&mut self.machine, self.alloc, event, now.milliseconds()),
-        }
-    }
-
-    /// Returns what to do at a tick: the tables in which the session is to be closed and opened anew, and then the actions to
-    /// perform, in order. The caller answers none of them. A plain session asks for nothing. A tick may come whenever `Turn` may; if
-    /// neither may, the session refuses the tick for the cause for which it would refuse `Turn`.
-    pub fn tick(&mut self, now: Moment) -> Result<Ticked, SessionError>
-        ensures ticks { IfOk result (λ t. IsTicked self.old now t.left.items t.actions.items self.new) }
-        ensures counted { IfOk result (λ t. self.new.counts ≡ asked_as self.old.manner t.actions.items self.old.counts) }
-        ensures refused { IfErr result (λ e. Refuses self.old.session.phase events.Turn e) }
-        ensures exactly { (e : SessionError) → e ≢ errors.Memory → Refuses self.old.session.phase events.Turn e → result ≡ Err e }
-        ensures ended { OnErr result (self.new ≡ record self.old { session = ended self.old.session }) }
-        ensures stays { is_staying self.new.manner ≡ is_staying self.old.manner }
-    {
-        match &mut self.stay {
-            None => self.machine.on_tick(self.alloc),
-            Some(stay) => stay.on_tick(&mut self.machine, self.alloc, now.milliseconds()),
-        }
-    }
-
-    /// Notes that this node has sent bytes for which the session didn't ask.
-    pub fn note_sent(&mut self, now: Moment)
-        ensures { self.new ≡ noting_sent now self.old }
-    {
-        if let Some(stay) = &mut self.stay {
-            stay.pace.sent = now.milliseconds();
-        }
-    }
-
-    /// Notes that this node is up to date: from now on the session's resyncs end as finished, unless a tick left a table.
-    pub fn catch_up(&mut self)
-        ensures { self.new ≡ catching_up self.old }
-    {
-        match &self.stay {
-            None => self.machine.course.catch_up(false),
-            Some(stay) => stay.catch_up(&mut self.machine),
         }
     }
 }

@@ -16,20 +16,22 @@ ghost use Rattle.session_core.specs.HeardCounts.{CountsEvent};
 ghost use Rattle.session_core.specs.Courses.{is_due, none_due};
 ghost use Rattle.session_core.specs.Sessions.{Keeps, Refuses, IsWhy, ended, phase_of, seen};
 ghost use Rattle.session_core.specs.Paces.{has_passed, heartbeat_time, is_ahead};
-ghost use Rattle.session_core.specs.Standing.{stood, brings_bytes, is_send, Listens, Does, TakesTurn, Writes, Stands, Ticks, TicksIn, HandsOn, answer_of_refusal, any_left, heartbeats, caught_up};
+ghost use Rattle.session_core.specs.Standing.{stood, brings_bytes, is_send, Listens, Does, TakesTurn, Writes, Stands, TicksAs, TakesTick, HandsOn, answer_of_refusal, word_of, any_left, heartbeats};
 
 use crate::action::Action;
+use crate::counts::Counts;
 use crate::course::is_due;
 use crate::due::Due;
 use crate::error::SessionError;
 use crate::event::Event;
+use crate::leaving::reopening;
 use crate::machine::Machine;
-use crate::pace::{Pace, Task};
+use crate::pace::{Pace, Task, any_left};
 use crate::phase::Stage;
-use crate::progress::{inferred, is_ahead, last_number, note_acks, note_copy, tables_to_leave};
+use crate::progress::{
+    inferred, is_ahead, last_number, note_actions, note_copy, note_left, tables_to_leave,
+};
 use crate::receiving::push_control;
-use crate::tally::Tally;
-use crate::ticked::Ticked;
 use crate::times;
 use crate::times::has_passed;
 use known_state::Known;
@@ -41,8 +43,8 @@ use table_types::{Batch, Items, Memory, Settled};
 #[derive(Drop)]
 pub(crate) struct Stay {
     pub(crate) pace: Pace,
-    /// What it asked for so far.
-    pub(crate) tally: Tally,
+    /// How much it asked for so far.
+    pub(crate) counts: Counts,
 }
 
 /// Returns whether an event brings bytes.
@@ -67,11 +69,13 @@ fn any_send(actions: &[Action]) -> bool
     false
 }
 
-/// Returns whether there are tables that are left.
-fn any_left(left: &[u64]) -> bool
-    ensures { result ≡ any_left left.now }
+/// Appends the rest of the actions.
+fn append(actions: &mut Vec<Action>, rest: Vec<Action>) -> Result<(), Memory>
+    ensures { OnOk result (actions.new.items ≡ actions.old.items ++ rest.items) }
 {
-    !left.is_empty()
+    let mut rest = rest;
+    actions.append(&mut rest)?;
+    Ok(())
 }
 
 /// Does nothing. Fails with `Unasked` if an answer is due.
@@ -110,7 +114,7 @@ impl Stay {
         ensures hands { IfOk result (λ acts. HandsOn (stood machine.old self.old) now event acts.items (stood machine.new self.new)) }
         ensures heard { OnOk result (CountsEvent event (phase_of machine.old.stage machine.old.course) machine.old.heard machine.new.heard) }
         ensures refused { IfErr result (λ e. Refuses (phase_of machine.old.stage machine.old.course) event e) }
-        ensures tallied { OnOk result (self.new.tally ≡ self.old.tally) }
+        ensures counts { OnOk result (self.new.counts ≡ self.old.counts) }
         ensures kept { OnErr result (Keeps machine.old machine.new × (self.new ≡ self.old)) }
     {
         let hears = brings_bytes(&event);
@@ -122,7 +126,7 @@ impl Stay {
         Ok(actions)
     }
 
-    /// Receives bytes, and notes the acknowledgements in them.
+    /// Receives bytes, and notes the acknowledgements and the rows in them.
     fn listen(
         &mut self,
         machine: &mut Machine,
@@ -133,11 +137,11 @@ impl Stay {
         ensures listens { IfOk result (λ acts. Listens (stood machine.old self.old) now bytes acts.items (stood machine.new self.new)) }
         ensures heard { OnOk result (CountsEvent (events.Bytes bytes) (phase_of machine.old.stage machine.old.course) machine.old.heard machine.new.heard) }
         ensures refused { IfErr result (λ e. Refuses (phase_of machine.old.stage machine.old.course) (events.Bytes bytes) e) }
-        ensures tallied { OnOk result (self.new.tally ≡ self.old.tally) }
+        ensures counts { OnOk result (self.new.counts ≡ self.old.counts) }
         ensures kept { OnErr result (Keeps machine.old machine.new × (self.new ≡ self.old)) }
     {
         let actions = self.hand_on(machine, alloc, Event::Bytes(bytes), now)?;
-        note_acks(&mut self.pace.progress, actions.as_slice());
+        note_actions(&mut self.pace.progress, actions.as_slice());
         Ok(actions)
     }
 
@@ -152,7 +156,7 @@ impl Stay {
         ensures begins { IfOk result (λ acts. Does tasks.Begin (stood machine.old self.old) machine.old.course now acts.items (stood machine.new self.new)) }
         ensures heard { OnOk result (machine.new.heard ≡ machine.old.heard) }
         ensures refused { IfErr result (λ e. IsWhy (none_due machine.old.course.due) e) }
-        ensures tallied { OnOk result (self.new.tally ≡ self.old.tally) }
+        ensures counts { OnOk result (self.new.counts ≡ self.old.counts) }
         ensures kept { OnErr result (Keeps machine.old machine.new × (self.new ≡ self.old)) }
     {
         if !machine.course.none_due() {
@@ -176,7 +180,7 @@ impl Stay {
         ensures turns { IfOk result (λ acts. TakesTurn (phase_of machine.old.stage machine.old.course) (stood machine.old self.old) now acts.items (stood machine.new self.new)) }
         ensures heard { OnOk result (machine.new.heard ≡ machine.old.heard) }
         ensures refused { IfErr result (λ e. Refuses (phase_of machine.old.stage machine.old.course) events.Turn e) }
-        ensures tallied { OnOk result (self.new.tally ≡ self.old.tally) }
+        ensures counts { OnOk result (self.new.counts ≡ self.old.counts) }
         ensures kept { OnErr result (Keeps machine.old machine.new × (self.new ≡ self.old)) }
     {
         match &machine.stage {
@@ -201,7 +205,7 @@ impl Stay {
     ) -> Result<Vec<Action>, SessionError>
         ensures writes { IfOk result (λ acts. Writes (phase_of machine.old.stage machine.old.course) (stood machine.old self.old) now known acts.items (stood machine.new self.new)) }
         ensures refused { IfErr result (λ e. Refuses (phase_of machine.old.stage machine.old.course) (events.Written known) e) }
-        ensures tallied { OnOk result (self.new.tally ≡ self.old.tally) }
+        ensures counts { OnOk result (self.new.counts ≡ self.old.counts) }
         ensures kept { OnErr result (Keeps machine.old machine.new × (self.new ≡ self.old)) }
         ensures heard { OnOk result (machine.new.heard ≡ machine.old.heard) }
     {
@@ -227,7 +231,7 @@ impl Stay {
         ensures stands { IfOk result (λ acts. Stands (stood machine.old self.old) now (events.Copied table batch) acts.items (stood machine.new self.new)) }
         ensures heard { OnOk result (machine.new.heard ≡ machine.old.heard) }
         ensures refused { IfErr result (λ e. Refuses (phase_of machine.old.stage machine.old.course) (events.Copied table batch) e) }
-        ensures tallied { OnOk result (self.new.tally ≡ self.old.tally) }
+        ensures counts { OnOk result (self.new.counts ≡ self.old.counts) }
         ensures kept { OnErr result (Keeps machine.old machine.new × (self.new ≡ self.old)) }
     {
         let number = last_number(&batch);
@@ -247,7 +251,7 @@ impl Stay {
         ensures hands { IfOk result (λ acts. HandsOn (stood machine.old self.old) now (answer_of_refusal (is_ahead table self.old.pace.progress) table) acts.items (stood machine.new self.new)) }
         ensures heard { OnOk result (machine.new.heard ≡ machine.old.heard) }
         ensures refused { IfErr result (λ e. Refuses (phase_of machine.old.stage machine.old.course) (events.Refused table) e) }
-        ensures tallied { OnOk result (self.new.tally ≡ self.old.tally) }
+        ensures counts { OnOk result (self.new.counts ≡ self.old.counts) }
         ensures kept { OnErr result (Keeps machine.old machine.new × (self.new ≡ self.old)) }
     {
         if is_ahead(self.pace.progress.as_slice(), table) {
@@ -267,42 +271,17 @@ impl Stay {
     ) -> Result<Vec<Action>, SessionError>
         ensures stands { IfOk result (λ acts. Stands (stood machine.old self.old) now event acts.items (stood machine.new self.new)) }
         ensures heard { OnOk result (CountsEvent event (phase_of machine.old.stage machine.old.course) machine.old.heard machine.new.heard) }
-        ensures counted { IfOk result (λ acts. self.new.tally.counts ≡ all_asked acts.items self.old.tally.counts) }
+        ensures counted { IfOk result (λ acts. self.new.counts ≡ all_asked acts.items self.old.counts) }
         ensures refused { IfErr result (λ e. Refuses (phase_of machine.old.stage machine.old.course) event e) }
         ensures exactly { (e : SessionError) → e ≢ errors.Memory → Refuses (phase_of machine.old.stage machine.old.course) event e → result ≡ Err e }
         ensures ended { OnErr result ((seen machine.new ≡ ended (seen machine.old)) × (machine.new.heard ≡ machine.old.heard) × (self.new ≡ self.old)) }
     {
         let given = self.step(machine, alloc, event, now);
         match &given {
-            Ok(actions) => self.tally.count(actions.as_slice()),
+            Ok(actions) => self.counts.count_all(actions.as_slice()),
             Err(_) => machine.stage = Stage::Ended,
         }
         given
-    }
-
-    /// Makes the step at a tick. After an error the session is over.
-    pub(crate) fn on_tick(
-        &mut self,
-        machine: &mut Machine,
-        alloc: Global,
-        now: u64,
-    ) -> Result<Ticked, SessionError>
-        ensures ticks { IfOk result (λ t. Ticks (stood machine.old self.old) now t.left.items t.actions.items (stood machine.new self.new)) }
-        ensures heard { OnOk result (machine.new.heard ≡ machine.old.heard) }
-        ensures counted { IfOk result (λ t. self.new.tally.counts ≡ all_asked t.actions.items self.old.tally.counts) }
-        ensures refused { IfErr result (λ e. Refuses (phase_of machine.old.stage machine.old.course) events.Turn e) }
-        ensures exactly { (e : SessionError) → e ≢ errors.Memory → Refuses (phase_of machine.old.stage machine.old.course) events.Turn e → result ≡ Err e }
-        ensures ended { OnErr result ((seen machine.new ≡ ended (seen machine.old)) × (machine.new.heard ≡ machine.old.heard) × (self.new ≡ self.old)) }
-    {
-        let ticked = self.tick(machine, alloc, now);
-        match &ticked {
-            Ok(ticked) => {
-                self.tally.note_left(ticked.left.as_slice());
-                self.tally.count(ticked.actions.as_slice());
-            }
-            Err(_) => machine.stage = Stage::Ended,
-        }
-        ticked
     }
 
     /// Makes the step at `event`, and returns the actions to perform, in order. After an error the stage and the course may be
@@ -317,7 +296,7 @@ impl Stay {
         ensures stands { IfOk result (λ acts. Stands (stood machine.old self.old) now event acts.items (stood machine.new self.new)) }
         ensures heard { OnOk result (CountsEvent event (phase_of machine.old.stage machine.old.course) machine.old.heard machine.new.heard) }
         ensures refused { IfErr result (λ e. Refuses (phase_of machine.old.stage machine.old.course) event e) }
-        ensures tallied { OnOk result (self.new.tally ≡ self.old.tally) }
+        ensures counts { OnOk result (self.new.counts ≡ self.old.counts) }
         ensures kept { OnErr result (Keeps machine.old machine.new × (self.new ≡ self.old)) }
     {
         match event {
@@ -326,6 +305,9 @@ impl Stay {
             Event::Copied(table, batch) => self.copied(machine, alloc, table, batch, now),
             Event::Written(known) => self.written(machine, alloc, known, now),
             Event::Refused(table) => self.refused(machine, alloc, table, now),
+            Event::Tick => self.tick(machine, alloc, now),
+            Event::CaughtUp => self.caught_up(machine, alloc, now),
+            Event::Ask => self.hand_on(machine, alloc, Event::Ask, now),
             Event::Opened => self.hand_on(machine, alloc, Event::Opened, now),
             Event::End => self.hand_on(machine, alloc, Event::End, now),
             Event::ReadFault => self.hand_on(machine, alloc, Event::ReadFault, now),
@@ -347,35 +329,35 @@ impl Stay {
         push_control(alloc, actions, Control::Heartbeat)
     }
 
-    /// Makes the step at a tick of an open session that isn't silent: leaves the tables that are overdue, forgets the names if
-    /// there are any, and asks for a heartbeat if one is owed.
+    /// Makes the step at a tick of an open session that isn't silent: reopens and leaves the tables that are overdue, forgets the names
+    /// if there are any, and asks for a heartbeat if one is owed.
     fn tick_open(
         &mut self,
         machine: &mut Machine,
         alloc: Global,
         now: u64,
-    ) -> Result<Ticked, SessionError>
+    ) -> Result<Vec<Action>, SessionError>
         requires { machine.old.stage ≡ stages.Open }
-        ensures ticks { IfOk result (λ t. TicksIn false (phases.Open machine.old.course) (stood machine.old self.old) now t.left.items t.actions.items (stood machine.new self.new)) }
+        ensures ticks { IfOk result (λ acts. TicksAs false (phases.Open machine.old.course) (stood machine.old self.old) now acts.items (stood machine.new self.new)) }
         ensures heard { OnOk result (machine.new.heard ≡ machine.old.heard) }
         ensures memory { IfErr result (λ e. e ≡ errors.Memory) }
-        ensures tallied { OnOk result (self.new.tally ≡ self.old.tally) }
+        ensures counts { OnOk result (self.new.counts ≡ self.old.counts) }
         ensures kept { OnErr result (Keeps machine.old machine.new × (self.new ≡ self.old)) }
     {
         let progress = self.pace.progress.as_slice();
         let left = tables_to_leave(alloc, progress, machine.course.shares.as_slice(), now)?;
-        let mut actions = Vec::new(alloc);
-        machine
-            .course
-            .leave_all(alloc, left.as_slice(), &mut actions)?;
-        self.beat(alloc, &mut actions, now)?;
-        self.pace
-            .note(any_send(actions.as_slice()), false, true, now);
-        self.pace.leave(any_left(left.as_slice()));
+        let mut actions = reopening(alloc, left.as_slice())?;
+        let mut rest = Vec::new(alloc);
+        machine.course.leave_all(alloc, left.as_slice(), &mut rest)?;
+        self.beat(alloc, &mut rest, now)?;
+        let sends = any_send(rest.as_slice());
+        append(&mut actions, rest)?;
+        self.pace.note(sends, false, true, now);
+        self.pace.leave(left.as_slice());
         if any_left(left.as_slice()) {
             machine.known.forget_names();
         }
-        Ok(Ticked { left, actions })
+        Ok(actions)
     }
 
     /// Makes the step at a tick of a session that isn't silent.
@@ -384,34 +366,17 @@ impl Stay {
         machine: &mut Machine,
         alloc: Global,
         now: u64,
-    ) -> Result<Ticked, SessionError>
-        ensures ticks { IfOk result (λ t. TicksIn false (phase_of machine.old.stage machine.old.course) (stood machine.old self.old) now t.left.items t.actions.items (stood machine.new self.new)) }
+    ) -> Result<Vec<Action>, SessionError>
+        ensures ticks { IfOk result (λ acts. TicksAs false (phase_of machine.old.stage machine.old.course) (stood machine.old self.old) now acts.items (stood machine.new self.new)) }
         ensures heard { OnOk result (machine.new.heard ≡ machine.old.heard) }
         ensures memory { IfErr result (λ e. e ≡ errors.Memory) }
-        ensures tallied { OnOk result (self.new.tally ≡ self.old.tally) }
+        ensures counts { OnOk result (self.new.counts ≡ self.old.counts) }
         ensures kept { OnErr result (Keeps machine.old machine.new × (self.new ≡ self.old)) }
     {
         match &machine.stage {
             Stage::Open => self.tick_open(machine, alloc, now),
-            Stage::New(_) | Stage::Hello(_, _) | Stage::Ended => Ok(Ticked {
-                left: Vec::new(alloc),
-                actions: Vec::new(alloc),
-            }),
+            Stage::New(_) | Stage::Hello(_, _) | Stage::Ended => Ok(Vec::new(alloc)),
         }
-    }
-
-    /// Makes the step at a tick of a session that is silent.
-    fn tick_silent(&self, machine: &mut Machine, alloc: Global) -> Result<Ticked, SessionError>
-        ensures ticks { (phase : Phase) (now : ℕ) → IfOk result (λ t. TicksIn true phase (stood machine.old self.now) now t.left.items t.actions.items (stood machine.new self.now)) }
-        ensures heard { OnOk result (machine.new.heard ≡ machine.old.heard) }
-        ensures memory { IfErr result (λ e. e ≡ errors.Memory) }
-        ensures kept { OnErr result (Keeps machine.old machine.new) }
-    {
-        let actions = machine.close(alloc)?;
-        Ok(Ticked {
-            left: Vec::new(alloc),
-            actions,
-        })
     }
 
     /// Makes the step at a tick. After an error as `step`.
@@ -420,25 +385,38 @@ impl Stay {
         machine: &mut Machine,
         alloc: Global,
         now: u64,
-    ) -> Result<Ticked, SessionError>
-        ensures ticks { IfOk result (λ t. Ticks (stood machine.old self.old) now t.left.items t.actions.items (stood machine.new self.new)) }
+    ) -> Result<Vec<Action>, SessionError>
+        ensures ticks { IfOk result (λ acts. TakesTick (stood machine.old self.old) now acts.items (stood machine.new self.new)) }
         ensures heard { OnOk result (machine.new.heard ≡ machine.old.heard) }
-        ensures refused { IfErr result (λ e. Refuses (phase_of machine.old.stage machine.old.course) events.Turn e) }
-        ensures tallied { OnOk result (self.new.tally ≡ self.old.tally) }
+        ensures refused { IfErr result (λ e. Refuses (phase_of machine.old.stage machine.old.course) events.Tick e) }
+        ensures counts { OnOk result (self.new.counts ≡ self.old.counts) }
         ensures kept { OnErr result (Keeps machine.old machine.new × (self.new ≡ self.old)) }
     {
-        machine.check_turn()?;
+        machine.check_tick()?;
         if has_passed(times::SILENCE, self.pace.heard, now) {
-            self.tick_silent(machine, alloc)
+            machine.close(alloc)
         } else {
             self.tick_heard(machine, alloc, now)
         }
     }
 
-    /// Makes resyncs end as finished from now on, unless a table was left.
-    pub(crate) fn catch_up(&self, machine: &mut Machine)
-        ensures { (stood machine.new self.now ≡ caught_up (stood machine.old self.now)) × (machine.new.heard ≡ machine.old.heard) }
+    /// Hands on word that this node is up to date, unless a table was left.
+    fn caught_up(
+        &mut self,
+        machine: &mut Machine,
+        alloc: Global,
+        now: u64,
+    ) -> Result<Vec<Action>, SessionError>
+        ensures hands { IfOk result (λ acts. HandsOn (stood machine.old self.old) now (word_of self.old.pace.left) acts.items (stood machine.new self.new)) }
+        ensures heard { OnOk result (machine.new.heard ≡ machine.old.heard) }
+        ensures refused { IfErr result (λ e. Refuses (phase_of machine.old.stage machine.old.course) events.CaughtUp e) }
+        ensures counts { OnOk result (self.new.counts ≡ self.old.counts) }
+        ensures kept { OnErr result (Keeps machine.old machine.new × (self.new ≡ self.old)) }
     {
-        machine.course.catch_up(self.pace.left);
+        if self.pace.left {
+            self.hand_on(machine, alloc, Event::Tick, now)
+        } else {
+            self.hand_on(machine, alloc, Event::CaughtUp, now)
+        }
     }
 }

@@ -26,9 +26,11 @@ use Rattle.staying_node.specs.contracts.lags.Lags as Lags
 use Rattle.staying_node.specs.contracts.log.Log as Log
 use Rattle.staying_node.specs.contracts.metrics_port.MetricsPort as MetricsPort
 use Rattle.staying_node.specs.contracts.metrics_port.Visits as Visits
+use Rattle.staying_node.specs.contracts.node.Flags as Flags
 use Rattle.staying_node.specs.contracts.node.Node as Node
 use Rattle.staying_node.specs.contracts.numbering.Numbering as Numbering
 use Rattle.staying_node.specs.contracts.ports.Ports as Ports
+use Rattle.staying_node.specs.contracts.process.Spare as Spare
 use Rattle.staying_node.specs.contracts.slot.Slot as Slot
 use Rattle.staying_node.specs.contracts.sockets.SocketFile as SocketFile
 use Rattle.staying_node.specs.contracts.status.PeerStatus as PeerStatus
@@ -87,9 +89,15 @@ lags_sync = search (sendable, crosses) depth 80 fits 20000
 bell_sync : IsSync (Bell.the_field).row
 bell_sync = search (sendable, crosses) depth 80 fits 20000
 
+spare_sync : IsSync (Spare.the_field).row
+spare_sync = search (sendable, crosses) depth 80 fits 20000
+
+flags_sync : IsSync (Flags.the_field).row
+flags_sync = search (sendable, crosses) depth 80 fits 20000
+
 pub node_sync : IsSync (Node.the_field).row
 node_sync =
-    search (name_sync, roster_sync, configuration_sync, slot_sync, catching_up_sync, numbering_sync, log_sync, log_send, wrong_ports_sync, shards_sync, clock_sync, faults_sync, lags_sync, bell_sync, sendable, crosses) depth 80 fits 20000
+    search (name_sync, roster_sync, configuration_sync, slot_sync, catching_up_sync, numbering_sync, log_sync, log_send, wrong_ports_sync, shards_sync, clock_sync, faults_sync, lags_sync, bell_sync, spare_sync, flags_sync, sendable, crosses) depth 80 fits 20000
 
 doors_sync : IsSync (Doors.the_field).row
 doors_sync = search (told_send, sendable, crosses) depth 80 fits 20000

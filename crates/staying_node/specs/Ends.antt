@@ -1,5 +1,5 @@
 -- Why a session ended.
-use Rattle.std.specs.Prelude.{ℕ, Bool, true, false, not, ◌&&◌, ◌||◌, List, [], ◌∷◌, if◌then◌else◌, length, nat_le}
+use Rattle.std.specs.Prelude.{ℕ, Bool, true, false, not, ◌&&◌, ◌||◌, List, [], ◌∷◌, if◌then◌else◌, length, nat_le, Option, None, Some}
 use Rattle.peers_engine.specs.declared.errors.EngineError.{EngineError}
 use Rattle.peers_engine.specs.declared.errors.EngineError.TheVariants as errors
 use Rattle.peers_hello.specs.Statuses.{status_of}
@@ -23,6 +23,20 @@ end_of_error (errors.Write sent) = ends.Device
 end_of_error (errors.Session error) = ends.Error
 end_of_error errors.Memory = ends.Error
 end_of_error errors.Strange = ends.Error
+
+-- a read failed, which brought nothing
+abbrev pub is_failed_read : EngineError → Bool
+is_failed_read errors.Read = true
+is_failed_read (errors.Write sent) = false
+is_failed_read (errors.Session error) = false
+is_failed_read errors.Memory = false
+is_failed_read errors.Strange = false
+
+-- No error ended the session, or that of a read, so all was done that what came asks for. After any other error it counts the end of a
+-- resync all the same, also if rows weren't learned that came before it.
+abbrev pub has_done_all : Option EngineError → Bool
+has_done_all None = true
+has_done_all (Some error) = is_failed_read error
 
 -- ---- a connection that came to no session
 

@@ -1,2 +1,3 @@
+pub mod Acknowledgements
 pub mod Ends
 pub mod Renewals

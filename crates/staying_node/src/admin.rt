@@ -1,17 +1,19 @@
 //! The admin port: its connections, and the threads that answer them.
 
+use crate::accepting::tell_of_lack;
 use crate::clock::milliseconds;
-use crate::devices::is_pause;
+use crate::devices::{is_pause, read_piece};
 use crate::node::{MOST_REQUESTERS, Node};
-use crate::reading::Reading;
+use crate::reading::{After, Reading};
 use crate::requests::Requester;
 use crate::sockets::SocketFile;
 use crate::streams::{Listener, Stream};
-use admin_port::{is_idle_too_long, longest_idle, makes_room, push_too_many};
-use node_core::Port;
+use admin_port::{is_idle_too_long, push_too_many};
+use node_core::{Accepting, Port};
+use node_rules::{Room, room_for_client};
 use std::alloc::{AllocError, Global};
 use std::fs::Files;
-use std::io::{ErrorKind, Read, Write};
+use std::io::{ErrorKind, Write};
 use std::net::Shutdown;
 use std::sync::{Arc, Condvar, Mutex, Wait};
 use std::time::Clock;
@@ -24,8 +26,11 @@ const LOOK: u64 = 200;
 /// How long a write waits for the client to read, in milliseconds.
 const WRITE_TIMEOUT: u64 = 4_000;
 
-/// How long requests of a connection may be answered before it makes room for another one, in milliseconds.
-const MOST_ANSWERING: u64 = 60_000;
+/// How long a write of the last answers of a connection waits before the node stops, in milliseconds.
+const LAST_WRITE: u64 = 500;
+
+/// How many such writes there are at most.
+const LAST_WRITES: u32 = 2;
 
 /// How long a connection waits behind its last answer for the client to close it, in milliseconds.
 const LINGER: u64 = 1_000;
@@ -95,35 +100,26 @@ impl Connections {
         self.places.iter().filter(|place| place.is_taken()).count()
     }
 
-    /// Returns the place of the one that has been idle longest, if it makes room for another one at `now`.
-    fn idle_for_long(&self, now: u64) -> Option<usize> {
-        let longest = longest_idle(self.idle.as_slice())?;
-        match self.idle.get(longest) {
-            Some(Some(since)) if makes_room(*since, now) => Some(longest),
-            _ => None,
-        }
-    }
-
-    /// Returns the place of the one whose requests have been answered longest, if it makes room for another one at `now`, since its client
-    /// takes the answers so slowly.
-    fn answered_for_long(&self, now: u64) -> Option<usize> {
-        let longest = longest_idle(self.answering.as_slice())?;
-        match self.answering.get(longest) {
-            Some(Some(since)) if now.saturating_sub(*since) >= MOST_ANSWERING => Some(longest),
-            _ => None,
-        }
-    }
-
-    /// Closes one for another that comes at `now`, if one makes room. Returns whether one does.
+    /// Closes one for another that comes at `now`, if there are too many and one goes. Returns whether there is room.
     fn make_room(&mut self, now: u64) -> bool {
-        let Some(leaving) = self.idle_for_long(now).or(self.answered_for_long(now)) else {
-            return false;
-        };
-        self.set(leaving, None, None);
-        if let Some(place) = self.places.get_mut(leaving) {
-            place.close();
+        let room = room_for_client(
+            self.count(),
+            MOST_REQUESTERS as usize,
+            self.idle.as_slice(),
+            self.answering.as_slice(),
+            now,
+        );
+        match room {
+            Room::Free => true,
+            Room::InPlaceOf(leaving) => {
+                self.set(leaving, None, None);
+                if let Some(place) = self.places.get_mut(leaving) {
+                    place.close();
+                }
+                true
+            }
+            Room::Full => false,
         }
-        true
     }
 
     /// Notes since when the connection at a place has been idle, or since when requests of it have been answered.
@@ -144,7 +140,7 @@ impl Connections {
     /// Has a connection wait for a thread, for which another one goes that makes room if there are too many. Returns whether there is room
     /// for it.
     fn add(&mut self, stream: Arc<Stream>, now: u64) -> bool {
-        if self.count() >= MOST_REQUESTERS as usize && !self.make_room(now) {
+        if !self.make_room(now) {
             return false;
         }
         for place in &mut self.places {
@@ -322,7 +318,7 @@ pub(crate) fn say_too_many(alloc: Global, stream: &Stream) -> io::Result<()> {
     stream.limit_writes(GREETING)?;
     let mut piece = [0u8; PIECE];
     let mut from = stream;
-    let count = match from.read(&mut piece) {
+    let count = match read_piece(&mut from, &mut piece) {
         Ok(count) => count.min(PIECE),
         Err(error) if is_pause(error.kind()) => 0,
         Err(error) => return Err(error),
@@ -345,13 +341,32 @@ fn obey_stop<R: Wait>(rt: &R, node: &Node, stream: &Stream, sent: &[u8]) -> io::
     answered
 }
 
+/// Writes the last answers of a connection on which a client asks the node to stop, and has it stop. A client that doesn't read them holds
+/// it up for `LAST_WRITES` times `LAST_WRITE` at most.
+fn stop_behind<R: Wait>(rt: &R, node: &Node, stream: &Stream, answers: &[u8]) {
+    let mut left = answers;
+    if stream.limit_writes(LAST_WRITE).is_ok() {
+        for _ in 0..LAST_WRITES {
+            let mut to = stream;
+            let Ok(count) = to.write(left) else {
+                break;
+            };
+            left = &left[count.min(left.len())..];
+            if left.is_empty() {
+                break;
+            }
+        }
+    }
+    node.stop(rt);
+}
+
 /// Reads what a client sends for which no memory is left, and obeys it if it is `stop`. It has `GREETING` to say that.
 fn serve_without_memory<R: Wait>(rt: &R, node: &Node, stream: &Stream) -> io::Result<()> {
     stream.limit_reads(GREETING)?;
     stream.limit_writes(GREETING)?;
     let mut piece = [0u8; PIECE];
     let mut from = stream;
-    let count = from.read(&mut piece)?;
+    let count = read_piece(&mut from, &mut piece)?;
     obey_stop(rt, node, stream, &piece[..count.min(PIECE)])
 }
 
@@ -383,6 +398,7 @@ pub(crate) fn accept_clients<R: Wait + Clock>(
     port: &AdminPort,
     listener: &Listener,
 ) {
+    let mut accepting = Accepting::new();
     for _ in rt.forever() {
         let accepted = listener.accept();
         if node.stops() {
@@ -390,10 +406,14 @@ pub(crate) fn accept_clients<R: Wait + Clock>(
         }
         match accepted {
             Ok(stream) => {
+                accepting.accept();
                 let _admitted = admit(rt, node, &port.clients, stream);
             }
             Err(error) if is_pause(error.kind()) => {}
-            Err(_) => thread::sleep(rt, milliseconds(PAUSE)),
+            Err(error) => {
+                tell_of_lack(rt, node, Port::Admin, &mut accepting, &error);
+                thread::sleep(rt, milliseconds(PAUSE));
+            }
         }
     }
 }
@@ -415,7 +435,7 @@ fn linger<R: Wait + Clock>(
             return Ok(());
         }
         let mut from = stream;
-        match from.read(piece) {
+        match read_piece(&mut from, piece) {
             Ok(0) => return Ok(()),
             Ok(_) => {}
             Err(error) if is_pause(error.kind()) => {}
@@ -426,9 +446,9 @@ fn linger<R: Wait + Clock>(
 }
 
 /// Reads a piece of what a client sends, if one comes within `LOOK`. Returns its size, 0 for none, or `None` if no more comes.
-fn read_piece(node: &Node, stream: &Stream, piece: &mut [u8; PIECE]) -> io::Result<Option<usize>> {
+fn read_more(node: &Node, stream: &Stream, piece: &mut [u8; PIECE]) -> io::Result<Option<usize>> {
     let mut from = stream;
-    match from.read(piece) {
+    match read_piece(&mut from, piece) {
         Ok(0) => Ok(None),
         Ok(count) => Ok(Some(count)),
         Err(error) if is_pause(error.kind()) && !node.stops() => Ok(Some(0)),
@@ -446,17 +466,24 @@ fn answer<R: Wait + Clock + Files>(
     begins: bool,
 ) -> io::Result<bool> {
     let mut to = stream;
+    let node = requester.node();
     match requester.answer(rt, reading, piece, &mut to) {
+        Ok(After::Stops) => {
+            stop_behind(rt, node, stream, reading.answers.as_slice());
+            Ok(false)
+        }
+        Ok(after) => Ok(after == After::GoesOn),
         Err(error) if begins && error.kind() == ErrorKind::OutOfMemory => {
-            obey_stop(rt, requester.node(), stream, piece)?;
+            obey_stop(rt, node, stream, piece)?;
             Err(error)
         }
-        answered => answered,
+        Err(error) => Err(error),
     }
 }
 
 /// Reads requests from the connection at a place and writes their answers until it ends, it has been idle for too long, another takes its
-/// place, the node stops, or a line ends it.
+/// place, the node stops, or a line ends it. How long it has been idle is judged by when a read begins, so what came while the node stood
+/// still is answered first.
 fn serve<R: Wait + Clock + Files>(
     rt: &R,
     clients: &Clients,
@@ -472,7 +499,8 @@ fn serve<R: Wait + Clock + Files>(
     let mut begins = true;
     let mut since = node.clock.milliseconds(rt);
     for _ in rt.forever() {
-        let Some(count) = read_piece(node, stream, &mut piece)? else {
+        let now = node.clock.milliseconds(rt);
+        let Some(count) = read_more(node, stream, &mut piece)? else {
             return Ok(());
         };
         if count > 0 {
@@ -493,7 +521,7 @@ fn serve<R: Wait + Clock + Files>(
                 return linger(rt, node, stream, &mut piece);
             }
         }
-        if is_idle_too_long(since, node.clock.milliseconds(rt)) {
+        if is_idle_too_long(since, now) {
             return Ok(());
         }
     }

@@ -1,7 +1,7 @@
 //! What a peer that was asked for all rows brings on its session.
 
 use node_core::Brought;
-use session_core::{Controls, Session, TableTally};
+use session_core::{Controls, Progress, Session};
 
 /// Returns how many control messages these are.
 fn messages(controls: Controls) -> u64 {
@@ -13,10 +13,10 @@ fn messages(controls: Controls) -> u64 {
 }
 
 /// Returns the sum of the numbers that the peer has acknowledged.
-fn acknowledged(tables: &[TableTally]) -> u64 {
+fn acknowledged(tables: &[Progress]) -> u64 {
     let mut sum = 0u64;
     for table in tables {
-        sum = sum.saturating_add(u64::from(table.acknowledged));
+        sum = sum.saturating_add(u64::from(table.acknowledged.unwrap_or(0)));
     }
     sum
 }
@@ -28,5 +28,5 @@ pub(crate) fn brought_on(session: &Session, read: u64) -> Brought {
         .saturating_add(passed_over.value)
         .saturating_add(passed_over.slot);
     let controls = messages(session.controls());
-    Brought::of(rows, read, controls, acknowledged(session.tables()))
+    Brought::of(rows, read, controls, acknowledged(session.progress()))
 }

@@ -2,30 +2,19 @@
 
 use crate::sessions::Place;
 use admin_port::push_side;
-use node_core::{Defining, Difference, Once, PeerEvent, SaidNames, TableShape};
+use node_core::{Defining, Difference, PeerEvent, ResyncEnd, SaidNames, TableShape};
+use node_rules::{Found, LookTimes, TableFinding, found_of};
 use std::alloc::{AllocError, Global};
 use std::sync::Wait;
 use std::time::Clock;
 use table_types::{TableDef, is_same_name};
 use tolerant_intake::Reader;
 
-/// The time between two looks at what a peer has defined, unless it has defined more tables meanwhile, in milliseconds.
-const PAUSE: u64 = 2_500;
-
-/// What was found of a table of this node, in all sessions with a peer.
-#[derive(Drop)]
-struct FoundOfTable {
-    /// What the log has said of it.
-    said: Once,
-    /// Whether the peer hadn't defined it although it would have, and hasn't since.
-    undefined: bool,
-}
-
 /// What was found of how a peer defines tables, in all its sessions, and what the log has said of it.
 #[derive(Drop)]
 pub(crate) struct SaidOfTables {
     /// What was found of each table of this node, in ascending order of id.
-    tables: Vec<FoundOfTable>,
+    tables: Vec<TableFinding>,
     /// The names of tables that this node lacks.
     unshared: SaidNames,
 }
@@ -43,7 +32,7 @@ impl SaidOfTables {
     fn count_undefined(&self) -> u64 {
         let mut count = 0u64;
         for table in &self.tables {
-            if table.undefined {
+            if table.is_undefined() {
                 count = count.saturating_add(1);
             }
         }
@@ -66,10 +55,7 @@ struct Findings {
 #[derive(Drop)]
 pub(crate) struct Comparison {
     defining: Defining,
-    /// How many tables the peer had defined at the last look.
-    count: usize,
-    /// When the next look is due at the latest, in milliseconds since the node began.
-    next: u64,
+    times: LookTimes,
 }
 
 impl Comparison {
@@ -77,25 +63,22 @@ impl Comparison {
     pub(crate) fn new() -> Comparison {
         Comparison {
             defining: Defining::new(),
-            count: 0,
-            next: 0,
+            times: LookTimes::new(),
         }
     }
 
-    /// Notes that the peer has taught a resync to its end.
-    pub(crate) fn note_taught(&mut self) {
-        self.defining.teach();
+    /// Notes that a resync has ended that the peer taught.
+    pub(crate) fn end_resync(&mut self, now: u64, end: ResyncEnd) {
+        self.defining.end_resync(now, end);
     }
 
     /// Looks at what the peer has defined, if that is due: notes what differs, and has the log say what it hasn't said of it.
     pub(crate) fn look<N: Wait + Clock>(&mut self, place: &Place<'_, N>, reader: &Reader) {
         let now = place.node.clock.milliseconds(place.rt);
         let count = reader.received().count();
-        if count == self.count && now < self.next {
+        if !self.times.look(count, now) {
             return;
         }
-        self.count = count;
-        self.next = now.saturating_add(PAUSE);
         if count > 0 {
             self.defining.define(now);
         }
@@ -132,10 +115,7 @@ impl<'a, N: Wait + Clock> Look<'a, N> {
         let mut differences = Vec::new(node.alloc);
         for (index, table) in node.roster.tables().iter().enumerate() {
             if said.tables.len() <= index {
-                said.tables.push(FoundOfTable {
-                    said: Once::new(),
-                    undefined: false,
-                })?;
+                said.tables.push(TableFinding::new())?;
             }
             let difference = match said.tables.get_mut(index) {
                 Some(found) => self.compare_table(table, found)?,
@@ -180,32 +160,31 @@ impl<'a, N: Wait + Clock> Look<'a, N> {
     fn compare_table(
         &self,
         table: &TableDef,
-        found: &mut FoundOfTable,
+        finding: &mut TableFinding,
     ) -> Result<Option<Difference>, AllocError> {
         let own = TableShape::of(table);
-        let Some(theirs) = self.defined(table.name()) else {
-            self.look_at_undefined(table.name(), found)?;
-            return Ok(None);
+        let theirs = self.defined(table.name());
+        let difference = match &theirs {
+            Some(theirs) => own.difference(theirs),
+            None => None,
         };
-        found.undefined = false;
-        let difference = own.difference(&theirs);
-        match difference {
-            Some(difference) => {
-                self.say_difference(table.name(), difference, &own, &theirs, &mut found.said)?
+        let found = found_of(theirs.is_some(), difference.is_some(), self.all_defined);
+        finding.note(found);
+        match (&theirs, difference) {
+            (Some(theirs), Some(difference)) => {
+                self.say_difference(table.name(), difference, &own, theirs, finding)?
             }
-            None => found.said.forget(),
+            _ if found == Found::Undefined => self.say_undefined(table.name(), finding)?,
+            _ => {}
         }
         Ok(difference)
     }
 
-    /// Notes that the peer hasn't defined a table, if it would have, and has the log say that if it is news.
-    fn look_at_undefined(&self, table: &[u8], found: &mut FoundOfTable) -> Result<(), AllocError> {
-        if !self.all_defined {
-            return Ok(());
-        }
-        found.undefined = true;
+    /// Has the log say that the peer hasn't defined a table, if that is news.
+    fn say_undefined(&self, table: &[u8], finding: &mut TableFinding) -> Result<(), AllocError> {
         let event = PeerEvent::Undefined { table };
-        if self.has_room(&event) && found.said.is_news(self.place.node.alloc, b"undefined")? {
+        let has_room = self.has_room(&event);
+        if finding.is_news(self.place.node.alloc, b"undefined", has_room)? {
             self.log(event);
         }
         Ok(())
@@ -218,7 +197,7 @@ impl<'a, N: Wait + Clock> Look<'a, N> {
         difference: Difference,
         own: &TableShape<'_>,
         theirs: &TableShape<'_>,
-        said: &mut Once,
+        finding: &mut TableFinding,
     ) -> Result<(), AllocError> {
         let alloc = self.place.node.alloc;
         let mut ours = Vec::new(alloc);
@@ -231,7 +210,8 @@ impl<'a, N: Wait + Clock> Look<'a, N> {
             theirs: its.as_slice(),
             ours: ours.as_slice(),
         };
-        if self.has_room(&event) && said.is_news(alloc, its.as_slice())? {
+        let has_room = self.has_room(&event);
+        if finding.is_news(alloc, its.as_slice(), has_room)? {
             self.log(event);
         }
         Ok(())

@@ -1,15 +1,17 @@
 //! The doors, at which peers connect.
 
+use crate::accepting::tell_of_lack;
 use crate::clock::milliseconds;
-use crate::devices::is_pause;
+use crate::devices::{is_pause, read_piece};
 use crate::node::{Node, address_text, host_text};
 use crate::slot::{Arrival, Slot};
-use node_core::{Event, HelloRefusal, Sender, is_longest};
+use node_core::{Accepting, Event, HelloRefusal, Port, Sender, is_longest};
 use node_log::{Form, Told, called_by, push_line, said_version, sender_of, status_of};
+use node_rules::{Kept, LOOK, SaidPart, Stay, hello_refusal, names_sender, said_in};
 use node_text::push_number;
 use peers_hello::{Answer, Hello};
 use std::alloc::Global;
-use std::io::{Read, Write};
+use std::io::Write;
 use std::net::{SocketAddr, TcpListener, TcpStream};
 use std::os::fd::OwnedFd;
 use std::sync::atomic::{AtomicU64, Ordering};
@@ -24,14 +26,8 @@ pub(crate) const DOORS: usize = 4;
 /// How long a door waits for a hello, in milliseconds.
 const HELLO: u64 = 5_000;
 
-/// How long a read waits before a door looks around, in milliseconds.
-const LOOK: u64 = 50;
-
 /// How long a door waits for a connection before it looks around, in milliseconds.
 const ACCEPT: u64 = 100;
-
-/// How long a door keeps a connection whose peer has another one, in milliseconds: a multiple of `LOOK`.
-const STAY: u64 = 300;
 
 /// The doors of a node. One free door at a time waits for the next connection. While none is free, the one whose connection
 /// has been silent longest closes it if another connection comes.
@@ -43,6 +39,8 @@ pub(crate) struct Doors {
     turn: Mutex<()>,
     /// How many connections were accepted.
     accepted: AtomicU64,
+    /// Whether connections can be accepted, as far as the log says it.
+    accepting: Mutex<Accepting>,
     /// The lines about hellos of strangers that the log has.
     told: Mutex<Told>,
 }
@@ -58,6 +56,7 @@ impl Doors {
             silent: Mutex::new(silent),
             turn: Mutex::new(()),
             accepted: AtomicU64::new(0),
+            accepting: Mutex::new(Accepting::new()),
             told: Mutex::new(Told::new(alloc)),
         })
     }
@@ -106,30 +105,20 @@ fn may_come(node: &Node, peer: usize, address: Option<SocketAddr>) -> bool {
     }
 }
 
-/// Returns why a hello is refused with this status.
-fn refusal_of(status: u16) -> HelloRefusal {
-    match status {
-        502 => HelloRefusal::Version,
-        503 => HelloRefusal::OtherNode,
-        504 => HelloRefusal::Stranger,
-        _ => HelloRefusal::Garbled,
-    }
-}
-
 /// Returns whether it is news that a hello of the peer with this index was refused with this status, and notes that it was.
 fn is_news_of<R: Wait>(rt: &R, node: &Node, peer: usize, status: u16) -> bool {
     match node.slots.get(peer) {
-        Some(slot) => slot.status(rt).refuse(status),
+        Some(slot) => slot.status(rt).record.refuse(status),
         None => false,
     }
 }
 
 /// Returns what a hello that is refused so says instead of what it should, if that is known.
-fn said_in(refusal: HelloRefusal, hello: &[u8]) -> &[u8] {
-    match refusal {
-        HelloRefusal::Version => said_version(hello),
-        HelloRefusal::OtherNode => called_by(hello),
-        HelloRefusal::Garbled | HelloRefusal::Stranger | HelloRefusal::Elsewhere => &[],
+fn said_by(refusal: HelloRefusal, hello: &[u8]) -> &[u8] {
+    match said_in(refusal) {
+        SaidPart::Version => said_version(hello),
+        SaidPart::CalledNode => called_by(hello),
+        SaidPart::Nothing => &[],
     }
 }
 
@@ -243,7 +232,7 @@ enum More {
 fn read_more(stream: &TcpStream, bytes: &mut Vec<u8>) -> More {
     let mut piece = [0u8; 512];
     let mut from = stream;
-    match from.read(&mut piece) {
+    match read_piece(&mut from, &mut piece) {
         Ok(0) => More::Over,
         Ok(count) if bytes.extend_from_slice(&piece[..count.min(512)]).is_ok() => More::Came,
         Ok(_) => More::Over,
@@ -294,6 +283,7 @@ impl<'a, R: Wait + Clock> Door<'a, R> {
     fn accept(&self) -> Option<Arrival> {
         match self.listener.accept() {
             Ok((stream, _)) => {
+                self.doors.accepting.lock(self.rt).accept();
                 let number = self.doors.accepted.fetch_add(1, Ordering::SeqCst);
                 Some(Arrival {
                     number,
@@ -303,11 +293,18 @@ impl<'a, R: Wait + Clock> Door<'a, R> {
             }
             Err(error) => {
                 if !is_pause(error.kind()) {
+                    self.tell_of_lack(&error);
                     thread::sleep(self.rt, milliseconds(ACCEPT));
                 }
                 None
             }
         }
+    }
+
+    /// Notes that a connection couldn't be accepted, which the log says if it is news.
+    fn tell_of_lack(&self, error: &io::Error) {
+        let mut accepting = self.doors.accepting.lock(self.rt);
+        tell_of_lack(self.rt, self.node, Port::Peers, &mut accepting, error);
     }
 
     /// Waits for the next connection. Returns `None` once the node stops.
@@ -333,14 +330,9 @@ impl<'a, R: Wait + Clock> Door<'a, R> {
             return Some(Found::Nothing);
         };
         match answer {
-            Answer::Accepted(name, _, _) => Some(self.admit(stream, name)),
+            Answer::Accepted(name, _, _) => Some(self.admit(stream, bytes, name)),
             Answer::Refused(status, _) => {
-                let refusal = refusal_of(status);
-                let sender = match refusal {
-                    HelloRefusal::Garbled => None,
-                    _ => Some(sender_of(bytes)),
-                };
-                self.turn_away(stream, refusal, sender, said_in(refusal, bytes));
+                self.refuse_hello(stream, bytes, status);
                 Some(Found::Nothing)
             }
             Answer::More => None,
@@ -348,38 +340,50 @@ impl<'a, R: Wait + Clock> Door<'a, R> {
     }
 
     /// Returns what the hello of the peer with this name comes to: it is refused if the peer may not come from where it came.
-    fn admit(&self, stream: &TcpStream, name: Name) -> Found {
-        let address = stream.peer_addr().ok();
-        match peer_with(self.node, name.as_slice()) {
-            Some(peer) if may_come(self.node, peer, address) => Found::Peer(name),
-            _ => {
-                self.turn_away(stream, HelloRefusal::Elsewhere, Some(name.as_slice()), &[]);
+    fn admit(&self, stream: &TcpStream, bytes: &[u8], name: Name) -> Found {
+        let comes = self.may_come(stream, &name);
+        match hello_refusal(None, comes) {
+            None => Found::Peer(name),
+            Some(refusal) => {
+                self.turn_away(stream, refusal, name.as_slice(), said_by(refusal, bytes));
                 Found::Nothing
             }
         }
     }
 
-    /// Refuses a hello, whose sender calls itself so, and which said this instead of what it should, and says it in the log if that is
-    /// news.
-    fn turn_away(
-        &self,
-        stream: &TcpStream,
-        refusal: HelloRefusal,
-        name: Option<&[u8]>,
-        said: &[u8],
-    ) {
+    /// Refuses a hello that the protocol refuses with this status.
+    fn refuse_hello(&self, stream: &TcpStream, bytes: &[u8], status: u16) {
+        if let Some(refusal) = hello_refusal(Some(status), false) {
+            let sender = if names_sender(refusal) {
+                sender_of(bytes)
+            } else {
+                &[]
+            };
+            self.turn_away(stream, refusal, sender, said_by(refusal, bytes));
+        }
+    }
+
+    /// Returns whether a connection comes from where the peer with this name may come.
+    fn may_come(&self, stream: &TcpStream, name: &Name) -> bool {
+        match peer_with(self.node, name.as_slice()) {
+            Some(peer) => may_come(self.node, peer, stream.peer_addr().ok()),
+            None => false,
+        }
+    }
+
+    /// Refuses a hello, whose sender calls itself `name`, which is empty if it says no name, and which said this instead of what it should,
+    /// and says it in the log if that is news.
+    fn turn_away(&self, stream: &TcpStream, refusal: HelloRefusal, name: &[u8], said: &[u8]) {
         let node = self.node;
         let status = status_of(refusal);
         node.count_refused(status);
-        let name = name.unwrap_or(&[]);
         log_refusal(self.rt, node, self.doors, stream, refusal, name, said);
         let _refused = refuse(node.alloc, stream, status);
     }
 
-    /// Returns why the door goes on with no more of a hello that began at `begun`, if it doesn't: the node stops, the hello takes
+    /// Returns why the door goes on with no more of a hello that began at `begun`, if it doesn't at `now`: the node stops, the hello takes
     /// too long, or another connection comes and this one has been silent longest.
-    fn leaves(&self, begun: u64) -> Option<Found> {
-        let now = self.node.clock.milliseconds(self.rt);
+    fn leaves(&self, begun: u64, now: u64) -> Option<Found> {
         if self.node.stops() || now.saturating_sub(begun) >= HELLO {
             return Some(Found::Nothing);
         }
@@ -390,24 +394,26 @@ impl<'a, R: Wait + Clock> Door<'a, R> {
         Some(Found::Other(other))
     }
 
-    /// Reads a hello until it is whole.
+    /// Reads a hello until it is whole. How long it takes is judged by when a read begins, so what came while the node stood still is
+    /// taken first.
     fn hello(&self, arrival: &mut Arrival) -> Found {
         let rt = self.rt;
         let begun = self.node.clock.milliseconds(rt);
         self.doors.set(rt, self.index, Some(begun));
         for _ in rt.forever() {
-            if let Some(found) = self.answer(&arrival.stream, arrival.bytes.as_slice()) {
-                return found;
-            }
+            let now = self.node.clock.milliseconds(rt);
             match read_more(&arrival.stream, &mut arrival.bytes) {
                 More::Came => {
-                    let now = self.node.clock.milliseconds(rt);
-                    self.doors.set(rt, self.index, Some(now));
+                    let came = self.node.clock.milliseconds(rt);
+                    self.doors.set(rt, self.index, Some(came));
+                    if let Some(found) = self.answer(&arrival.stream, arrival.bytes.as_slice()) {
+                        return found;
+                    }
                 }
                 More::Waits => {}
                 More::Over => return Found::Nothing,
             }
-            if let Some(found) = self.leaves(begun) {
+            if let Some(found) = self.leaves(begun, now) {
                 return found;
             }
         }
@@ -415,21 +421,27 @@ impl<'a, R: Wait + Clock> Door<'a, R> {
     }
 
     /// Hands a connection to the worker of its peer, at once if the worker has no other one. If it has, or had one that was accepted
-    /// after this one, this may be the one that the peer drops, so it is handed over only if it isn't over after `STAY`.
+    /// after this one, this may be the one that the peer drops, so the door keeps it for a while.
     fn hand_over(&self, name: &Name, mut arrival: Arrival) {
         let Some(slot) = slot_of(self.node, name) else {
             return;
         };
-        for _ in 0..STAY / LOOK {
+        let mut stay = Stay::new();
+        for _ in self.rt.forever() {
             match slot.offer(self.rt, arrival) {
                 None => return,
                 Some(kept) => arrival = kept,
             }
-            if is_over(self.rt, &arrival.stream) {
-                return;
+            match stay.look(is_over(self.rt, &arrival.stream)) {
+                Kept::Stays => {}
+                Kept::IsOver => return,
+                Kept::TakesOver => {
+                    slot.arrive(self.rt, arrival);
+                    return;
+                }
             }
         }
-        slot.arrive(self.rt, arrival);
+        unreachable!()
     }
 
     /// Takes a connection. Returns another one, for which it closes the first.

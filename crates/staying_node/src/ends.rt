@@ -1,7 +1,7 @@
 //! Why a session ended, or didn't begin.
 
 ghost use Rattle.std.specs.Prelude.{◌≡◌};
-ghost use Rattle.staying_node.specs.Ends.{begins_no_status, cause_of, end_of_closed, end_of_error, silent_cause};
+ghost use Rattle.staying_node.specs.Ends.{begins_no_status, cause_of, end_of_closed, end_of_error, has_done_all, is_failed_read, silent_cause};
 
 use crate::devices::reason_text;
 use node_core::{NoSession, SessionEnd};
@@ -30,6 +30,30 @@ pub(crate) fn end_of_error(error: EngineError) -> SessionEnd
     match error {
         EngineError::Read | EngineError::Write { sent: _ } => SessionEnd::Device,
         EngineError::Session(_) | EngineError::Memory | EngineError::Strange => SessionEnd::Error,
+    }
+}
+
+/// Returns whether this error is that of a read, which brought nothing.
+fn is_failed_read(error: EngineError) -> bool
+    ensures { result ≡ is_failed_read error }
+{
+    match error {
+        EngineError::Read => true,
+        EngineError::Write { sent: _ }
+        | EngineError::Session(_)
+        | EngineError::Memory
+        | EngineError::Strange => false,
+    }
+}
+
+/// Returns whether a session has done all that what came asks for, by which error it ended if one ended it. If it hasn't, the end of a
+/// resync may be counted although rows that came before it weren't learned.
+pub(crate) fn has_done_all(error: Option<EngineError>) -> bool
+    ensures { result ≡ has_done_all error }
+{
+    match error {
+        Some(error) => is_failed_read(error),
+        None => true,
     }
 }
 

@@ -216,8 +216,8 @@ impl<'a> Place<'a> {
 /// Returns whether a resync is under way in which the node teaches the peer with this index, or `None` if there is no session.
 fn teaches<R: Wait>(rt: &R, node: &Node, peer: usize) -> Option<bool> {
     let status = node.slots.get(peer)?.status(rt);
-    if status.stands() {
-        Some(status.teaches)
+    if status.record.stands() {
+        Some(status.record.teaches)
     } else {
         None
     }

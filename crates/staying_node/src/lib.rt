@@ -3,6 +3,8 @@
 //! them, the sockets and the clock, of which no contract speaks.
 #![tactic(auto)]
 
+mod accepting;
+mod acknowledged;
 mod admin;
 mod bell;
 mod brought;
@@ -14,7 +16,9 @@ mod doors;
 mod ends;
 mod fault_counts;
 mod inbox;
+mod input;
 mod intake;
+mod kept_page;
 mod lags;
 mod log;
 mod marked;
@@ -39,4 +43,5 @@ mod tables;
 mod viewing;
 mod wrong_ports;
 
+pub use input::check_input;
 pub use running::run;

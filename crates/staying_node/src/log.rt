@@ -131,7 +131,7 @@ impl Log {
         match fate {
             Fate::Waits => self.lines.ring(rt),
             Fate::LeftOut => {}
-            Fate::Dropped => self.count_dropped(1),
+            Fate::Full | Fate::Lost => self.count_dropped(1),
         }
         fate != Fate::LeftOut
     }

@@ -26,17 +26,17 @@ fn table_reports<'a>(
     status: &PeerStatus,
 ) -> Result<Vec<PeerTableReport<'a>>, AllocError> {
     let mut reports = Vec::new(node.alloc);
-    if !status.stands() {
+    if !status.record.stands() {
         return Ok(reports);
     }
     for (index, table) in node.roster.tables().iter().enumerate() {
-        if let Some(tally) = status.tables.get(index) {
+        if let Some(progress) = status.tables.get(index) {
             reports.push(PeerTableReport {
                 table,
-                taught: tally.taught,
-                acknowledged: tally.acknowledged,
-                received: tally.received,
-                left: tally.left,
+                taught: progress.last,
+                acknowledged: progress.acknowledged.unwrap_or(0),
+                received: progress.received,
+                left: progress.left,
                 mismatch: status.difference(index),
             })?;
         }
@@ -54,20 +54,21 @@ fn peer_report<'a, R: Wait + Clock>(
 ) -> Result<PeerReport<'a>, AllocError> {
     let now = node.clock.milliseconds(rt);
     let status = slot.status(rt);
+    let record = status.record;
     let totals = status.totals();
     Ok(PeerReport {
         name,
-        state: status.state,
-        role: if status.stands() { status.role } else { None },
-        since: now.saturating_sub(status.since),
-        sessions: status.sessions,
+        state: record.state,
+        role: record.shown_role(),
+        since: now.saturating_sub(record.since),
+        sessions: record.sessions,
         heartbeats_sent: totals.heartbeats_sent,
         heartbeats_received: totals.heartbeats_received,
-        faults: status.faults,
-        last_end: status.last_end,
-        version: status.version,
-        last_error: status.last_error(),
-        lag: if status.stands() { lag } else { 0 },
+        faults: record.faults,
+        last_end: record.last_end,
+        version: record.version,
+        last_error: record.last_error,
+        lag: if record.stands() { lag } else { 0 },
         mismatched: status.mismatched(),
         unshared: status.unshared,
         undefined: status.undefined,
@@ -92,7 +93,7 @@ pub(crate) fn peer_reports<'a, R: Wait + Clock>(
 pub(crate) fn health<R: Wait>(rt: &R, node: &Node) -> Health {
     let mut peers_up = 0u64;
     for slot in &node.slots {
-        let is_up = slot.status(rt).stands();
+        let is_up = slot.status(rt).record.stands();
         peers_up = peers_up.saturating_add(u64::from(is_up));
     }
     Health {
@@ -135,11 +136,11 @@ fn peer_metrics<'a, R: Wait + Clock>(
         let status = slot.status(rt);
         metrics.push(PeerMetrics {
             name,
-            up: status.stands(),
-            last_error: status.last_error(),
-            sessions: status.ended,
-            taught: status.resyncs_taught,
-            learned: status.resyncs_learned,
+            up: status.record.stands(),
+            last_error: status.record.last_error,
+            sessions: status.record.ended,
+            taught: status.record.resyncs_taught,
+            learned: status.record.resyncs_learned,
             mismatched: status.mismatched(),
             unshared: status.unshared,
             undefined: status.undefined,
@@ -158,8 +159,8 @@ fn node_metrics<R: Wait + Clock>(rt: &R, node: &Node) -> NodeMetrics {
     for slot in &node.slots {
         let status = slot.status(rt);
         totals = totals.plus(status.totals());
-        active = active.saturating_add(u64::from(status.stands()));
-        connected = connected.saturating_add(u64::from(status.connected));
+        active = active.saturating_add(u64::from(status.record.stands()));
+        connected = connected.saturating_add(u64::from(status.record.is_connected()));
         let tables = status.tables.iter().filter(|table| table.left).count();
         left = left.saturating_add(tables as u64);
     }

@@ -1,16 +1,19 @@
 //! The port of metrics, which answers HTTP and changes nothing: its connections, and the threads that answer them.
 
+use crate::accepting::tell_of_lack;
 use crate::clock::milliseconds;
-use crate::devices::is_pause;
+use crate::devices::{is_pause, read_piece};
+use crate::kept_page::KeptPage;
 use crate::node::Node;
 use crate::reading::Reading;
 use crate::streams::{Listener, Stream};
 use crate::viewing::Viewer;
-use admin_port::{is_idle_too_long, longest_idle, push_too_many_clients};
-use node_core::Port;
+use admin_port::{is_idle_too_long, push_too_many_clients};
+use node_core::{Accepting, Port};
+use node_rules::{Room, room_for_visit};
 use std::alloc::{AllocError, Global};
 use std::fs::Files;
-use std::io::{ErrorKind, Read, Write};
+use std::io::{ErrorKind, Write};
 use std::net::Shutdown;
 use std::sync::{Condvar, Mutex, Wait};
 use std::time::Clock;
@@ -84,11 +87,12 @@ impl Visit {
     }
 
     /// Reads what has come, answers it if it is a whole request, and discards it if one was answered. Returns whether the visit
-    /// goes on.
+    /// goes on, judged by when the read begins, so that what came while the node stood still is answered first.
     fn turn<R: Wait + Clock + Files>(&mut self, rt: &R, viewer: &Viewer<'_>) -> io::Result<bool> {
+        let now = viewer.node().clock.milliseconds(rt);
         let mut piece = [0u8; PIECE];
         let mut from = &self.stream;
-        match from.read(&mut piece) {
+        match read_piece(&mut from, &mut piece) {
             Ok(0) => return Ok(false),
             Ok(count) if self.answered.is_none() => {
                 self.waits = false;
@@ -98,8 +102,7 @@ impl Visit {
             Err(error) if is_pause(error.kind()) => self.waits = true,
             Err(error) => return Err(error),
         }
-        let node = viewer.node();
-        Ok(!node.stops() && !self.is_over(node.clock.milliseconds(rt)))
+        Ok(!viewer.node().stops() && !self.is_over(now))
     }
 
     /// Answers the request that goes on with `piece` if it ends there. Behind the answer no more is written.
@@ -169,19 +172,18 @@ impl Queue {
     /// Makes room for another visit, for which the one goes that has been idle longest of those that wait for a thread if there are too
     /// many. Returns whether there is room.
     fn make_room(&mut self) -> bool {
-        if self.waiting.len().saturating_add(self.taken) < MOST_VISITS {
-            return true;
-        }
         let mut idle = [None; MOST_VISITS];
         for (since, visit) in idle.iter_mut().zip(self.waiting.iter()) {
             *since = visit.idle();
         }
-        match longest_idle(&idle) {
-            Some(longest) if longest < self.waiting.len() => {
-                drop(self.waiting.remove(longest));
+        let count = self.waiting.len().saturating_add(self.taken);
+        match room_for_visit(count, MOST_VISITS, &idle) {
+            Room::Free => true,
+            Room::InPlaceOf(leaving) if leaving < self.waiting.len() => {
+                drop(self.waiting.remove(leaving));
                 true
             }
-            _ => false,
+            Room::InPlaceOf(_) | Room::Full => false,
         }
     }
 }
@@ -266,6 +268,7 @@ impl Visits {
 pub(crate) struct MetricsPort {
     listener: Listener,
     visits: Visits,
+    page: KeptPage,
 }
 
 impl MetricsPort {
@@ -274,6 +277,7 @@ impl MetricsPort {
         Ok(MetricsPort {
             listener,
             visits: Visits::new(alloc)?,
+            page: KeptPage::new(),
         })
     }
 
@@ -288,7 +292,7 @@ fn say_too_many(alloc: Global, stream: &Stream) -> io::Result<()> {
     stream.limit_reads(GREETING)?;
     let mut piece = [0u8; PIECE];
     let mut from = stream;
-    let _request = from.read(&mut piece);
+    let _request = read_piece(&mut from, &mut piece);
     let mut text = Vec::new(alloc);
     push_too_many_clients(&mut text)?;
     let mut to = stream;
@@ -307,6 +311,7 @@ fn admit<R: Wait + Clock>(rt: &R, node: &Node, visits: &Visits, stream: Stream) 
 
 /// Accepts connections for as long as the node runs.
 pub(crate) fn accept_visits<R: Wait + Clock>(rt: &R, node: &Node, port: &MetricsPort) {
+    let mut accepting = Accepting::new();
     for _ in rt.forever() {
         let accepted = port.listener.accept();
         if node.stops() {
@@ -314,10 +319,14 @@ pub(crate) fn accept_visits<R: Wait + Clock>(rt: &R, node: &Node, port: &Metrics
         }
         match accepted {
             Ok(stream) => {
+                accepting.accept();
                 let _admitted = admit(rt, node, &port.visits, stream);
             }
             Err(error) if is_pause(error.kind()) => {}
-            Err(_) => thread::sleep(rt, milliseconds(PAUSE)),
+            Err(error) => {
+                tell_of_lack(rt, node, Port::Metrics, &mut accepting, &error);
+                thread::sleep(rt, milliseconds(PAUSE));
+            }
         }
     }
 }
@@ -328,7 +337,7 @@ pub(crate) fn serve_visits<R: Wait + Clock + Files>(rt: &R, node: &Node, port: &
     if !node.wait_to_connect(rt) {
         return;
     }
-    let viewer = Viewer::new(node);
+    let viewer = Viewer::keeping(node, &port.page);
     for _ in rt.forever() {
         let Some(mut visit) = port.visits.take(rt, node) else {
             return;

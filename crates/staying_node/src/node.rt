@@ -7,10 +7,12 @@ use crate::fault_counts::FaultCounts;
 use crate::lags::Lags;
 use crate::log::Log;
 use crate::numbering::Numbering;
+use crate::process::Spare;
 use crate::slot::Slot;
 use crate::wrong_ports::WrongPorts;
 use admin_text::Configuration;
 use node_core::{ALONE, Event, PeerEvent};
+use node_rules::{ENDING, LastWait};
 use std::alloc::Global;
 use std::net::SocketAddr;
 use std::sync::atomic::{AtomicBool, AtomicU64, Ordering};
@@ -27,11 +29,29 @@ pub(crate) const MOST_REQUESTERS: u32 = 32;
 /// How long a thread that waits for a bell waits at most, in milliseconds.
 pub(crate) const REST: u64 = 5_000;
 
-/// How long a node that stops waits for its peers, in milliseconds.
-const LAST: u64 = 3_000;
+/// What the threads of a node tell one another, each once but for the last.
+#[derive(Drop)]
+struct Flags {
+    /// Whether all threads of the node have started.
+    started: AtomicBool,
+    stopped: AtomicBool,
+    /// Whether requests to track keys no longer wait.
+    tracks: AtomicBool,
+    /// Whether all sessions are to end, and none to begin, since a table gets new numbers.
+    paused: AtomicBool,
+}
 
-/// How often it looks meanwhile whether a session stands, in milliseconds.
-const ENDING: u64 = 10;
+impl Flags {
+    /// Returns the flags of a node that has just been made.
+    fn new() -> Flags {
+        Flags {
+            started: AtomicBool::new(false),
+            stopped: AtomicBool::new(false),
+            tracks: AtomicBool::new(false),
+            paused: AtomicBool::new(false),
+        }
+    }
+}
 
 /// What the threads of a node share.
 #[derive(Drop)]
@@ -57,15 +77,10 @@ pub(crate) struct Node {
     pub(crate) faults: FaultCounts,
     pub(crate) numbering: Numbering,
     pub(crate) lags: Lags,
+    pub(crate) spare: Spare,
     /// Rings when all threads of the node have started, when the node is up to date, and when it stops.
     pub(crate) changed: Bell,
-    /// Whether all threads of the node have started.
-    started: AtomicBool,
-    stopped: AtomicBool,
-    /// Whether requests to track keys no longer wait.
-    tracks: AtomicBool,
-    /// Whether all sessions are to end, and none to begin, since a table gets new numbers.
-    paused: AtomicBool,
+    flags: Flags,
 }
 
 /// The seats of a node: one for the thread that keeps the tables, one for each peer, and one for each thread that answers requests.
@@ -209,18 +224,16 @@ impl Node {
             faults: FaultCounts::new(alloc),
             numbering: Numbering::new(alloc, tables)?,
             lags: Lags::new(alloc),
+            spare: Spare::new(),
             changed: Bell::new(),
-            started: AtomicBool::new(false),
-            stopped: AtomicBool::new(false),
-            tracks: AtomicBool::new(false),
-            paused: AtomicBool::new(false),
+            flags: Flags::new(),
         };
         Ok((node, seats))
     }
 
     /// Lets connections begin, since all threads of the node have started.
     pub(crate) fn start<R: Wait>(&self, rt: &R) {
-        self.started.store(true, Ordering::SeqCst);
+        self.flags.started.store(true, Ordering::SeqCst);
         self.changed.ring(rt);
     }
 
@@ -232,7 +245,7 @@ impl Node {
             if self.stops() {
                 return false;
             }
-            if self.started.load(Ordering::SeqCst) {
+            if self.flags.started.load(Ordering::SeqCst) {
                 return true;
             }
             self.changed.wait(rt, seen, milliseconds(REST));
@@ -242,13 +255,13 @@ impl Node {
 
     /// Returns whether the node stops.
     pub(crate) fn stops(&self) -> bool {
-        self.stopped.load(Ordering::SeqCst)
+        self.flags.stopped.load(Ordering::SeqCst)
     }
 
     /// Stops the node: wakes all its threads, which then end. A session ends once its peer has acknowledged what the node had to
     /// teach.
     pub(crate) fn stop<R: Wait>(&self, rt: &R) {
-        self.stopped.store(true, Ordering::SeqCst);
+        self.flags.stopped.store(true, Ordering::SeqCst);
         self.changed.ring(rt);
         self.ring_all(rt);
     }
@@ -264,26 +277,33 @@ impl Node {
         }
     }
 
-    /// Waits until no session stands, for `LAST` at most, and then shuts down the connections of those that do. One that begins later
-    /// finds that the node stops.
-    pub(crate) fn end_sessions<R: Wait + Clock>(&self, rt: &R) {
-        for _ in 0..LAST / ENDING {
-            if !self.slots.iter().any(|slot| slot.has_session(rt)) {
-                break;
+    /// Waits for the sessions that stand, as long as a node that stops does.
+    fn wait_for_sessions<R: Wait + Clock>(&self, rt: &R) {
+        let mut wait = LastWait::new(self.clock.milliseconds(rt));
+        for _ in rt.forever() {
+            let stands = self.slots.iter().any(|slot| slot.has_session(rt));
+            if !wait.look(stands, self.clock.milliseconds(rt)) {
+                return;
             }
             thread::sleep(rt, milliseconds(ENDING));
         }
+    }
+
+    /// Waits for the sessions that stand, and then shuts down the connections of those that still do. One that begins later finds that
+    /// the node stops.
+    pub(crate) fn end_sessions<R: Wait + Clock>(&self, rt: &R) {
+        self.wait_for_sessions(rt);
         self.shut_all(rt);
     }
 
     /// Returns whether no session may stand, since a table gets new numbers.
     pub(crate) fn is_paused(&self) -> bool {
-        self.paused.load(Ordering::SeqCst)
+        self.flags.paused.load(Ordering::SeqCst)
     }
 
     /// Has all sessions end and none begin, or lets sessions stand again.
     pub(crate) fn set_paused<R: Wait>(&self, rt: &R, paused: bool) {
-        if self.paused.swap(paused, Ordering::SeqCst) == paused {
+        if self.flags.paused.swap(paused, Ordering::SeqCst) == paused {
             return;
         }
         self.ring_all(rt);
@@ -378,7 +398,7 @@ impl Node {
 
     /// Returns whether requests to track keys no longer wait.
     pub(crate) fn tracks(&self) -> bool {
-        self.tracks.load(Ordering::SeqCst)
+        self.flags.tracks.load(Ordering::SeqCst)
     }
 
     /// Waits until keys may be tracked: until the node is up to date, or has waited for that long enough, or stops.
@@ -387,7 +407,7 @@ impl Node {
             let seen = self.changed.rings(rt);
             let now = self.clock.milliseconds(rt);
             if now >= ALONE || self.catching_up.is_up_to_date(rt) {
-                self.tracks.store(true, Ordering::SeqCst);
+                self.flags.tracks.store(true, Ordering::SeqCst);
                 return;
             }
             if self.stops() {

@@ -27,6 +27,8 @@ pub(crate) struct Outbox<'a, R> {
     waits: u64,
     /// When the last write began, in milliseconds since the node did; 0 before any.
     pub(crate) begun: u64,
+    /// How long all writes took, in milliseconds.
+    pub(crate) taken: u64,
 }
 
 impl<'a, R> Outbox<'a, R> {
@@ -41,6 +43,7 @@ impl<'a, R> Outbox<'a, R> {
             time: WriteTime::new(),
             waits: WRITE_TIME,
             begun: 0,
+            taken: 0,
         }
     }
 }
@@ -73,7 +76,10 @@ impl<'a, R: Clock> Outbox<'a, R> {
         self.wait_for(left)?;
         self.begun = now;
         let mut to = self.stream;
-        to.write(bytes)
+        let written = to.write(bytes);
+        let time = self.clock.milliseconds(self.rt).saturating_sub(now);
+        self.taken = self.taken.saturating_add(time);
+        written
     }
 }
 

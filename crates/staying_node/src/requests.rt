@@ -67,17 +67,18 @@ impl<'a> Requester<'a> {
         }
     }
 
-    /// Answers the requests whose lines end in `piece`, and writes the answers. Returns whether the connection goes on.
+    /// Answers the requests whose lines end in `piece`, and writes the answers, but for the last ones if the node is to stop. Returns
+    /// whether the connection goes on.
     pub(crate) fn answer<R: Wait + Clock + Files, W: Write>(
         &mut self,
         rt: &R,
         reading: &mut Reading,
         piece: &[u8],
         output: &mut W,
-    ) -> io::Result<bool> {
+    ) -> io::Result<After> {
         for byte in piece {
             if *byte != b'\n' {
-                reading.line.push(*byte)?;
+                self.take_byte(rt, reading, *byte, output)?;
                 continue;
             }
             if !self.node.tracks() || reading.answers.len() >= MANY_ANSWERS {
@@ -91,19 +92,22 @@ impl<'a> Requester<'a> {
                 }
                 After::Closes => return self.close(rt, reading, output),
                 After::Stops => {
-                    let closed = self.close(rt, reading, output);
-                    self.node.stop(rt);
-                    return closed;
+                    self.tell_peers(rt);
+                    return Ok(After::Stops);
                 }
             }
         }
         self.tell_peers(rt);
         let is_long = reading.is_long();
         if is_long {
-            reading.refuse_long()?;
+            self.refuse_long(rt, reading, output)?;
         }
         reading.write(output)?;
-        Ok(!is_long)
+        Ok(if is_long {
+            After::Closes
+        } else {
+            After::GoesOn
+        })
     }
 
     /// Writes the last answers. Returns that the connection doesn't go on.
@@ -112,10 +116,45 @@ impl<'a> Requester<'a> {
         rt: &R,
         reading: &mut Reading,
         output: &mut W,
-    ) -> io::Result<bool> {
+    ) -> io::Result<After> {
         self.tell_peers(rt);
         reading.write(output)?;
-        Ok(false)
+        Ok(After::Closes)
+    }
+
+    /// Appends a byte to the line. If memory runs out, writes the answers to the lines before it.
+    fn take_byte<R: Wait, W: Write>(
+        &mut self,
+        rt: &R,
+        reading: &mut Reading,
+        byte: u8,
+        output: &mut W,
+    ) -> io::Result<()> {
+        match reading.line.push(byte) {
+            Ok(()) => Ok(()),
+            Err(_) => {
+                let _closed = self.close(rt, reading, output)?;
+                Err(AllocError.into())
+            }
+        }
+    }
+
+    /// Answers a line that is too long. If memory runs out, writes the answers to the lines before it.
+    fn refuse_long<R: Wait, W: Write>(
+        &mut self,
+        rt: &R,
+        reading: &mut Reading,
+        output: &mut W,
+    ) -> io::Result<()> {
+        reading.whole = reading.answers.len();
+        match reading.refuse_long() {
+            Ok(()) => Ok(()),
+            Err(_) => {
+                reading.answers.truncate(reading.whole);
+                let _closed = self.close(rt, reading, output)?;
+                Err(AllocError.into())
+            }
+        }
     }
 
     /// Answers the request of a line. If memory runs out, writes the answers to the lines before it.
@@ -269,7 +308,7 @@ impl<'a> Requester<'a> {
         let now = not_before_latest(&locked, self.node.clock.now(rt));
         let tracked = lent::track_with_reply(&mut locked, &mut self.seat, id, key, change, now);
         if self.seat.receipts(id).len() as u64 >= MANY {
-            let _long = slide(&mut locked, &mut self.seat, id);
+            let _long = slide(&mut locked, &self.seat, id);
         }
         drop(locked);
         forget(&mut self.seat, id);

@@ -3,6 +3,7 @@
 use crate::admin::{AdminPort, accept_clients, serve_clients};
 use crate::clock::{NodeClock, milliseconds};
 use crate::doors::{DOORS, keep_door};
+use crate::input::read_text;
 use crate::log::Log;
 use crate::marked::{Marked, says_journal};
 use crate::metrics_port::{MetricsPort, VIEWERS, accept_visits, serve_visits};
@@ -16,7 +17,7 @@ use crate::tables::keep;
 use admin_text::{Configuration, Warnings};
 use node_core::{Event, LastLook, Need, PeerEvent, Renewal, VERSION};
 use node_text::cut;
-use peers_devices::{Counting, Faults, read_to_end};
+use peers_devices::{Counting, Faults};
 use std::alloc::Global;
 use std::fs::Files;
 use std::io::{Read, Write};
@@ -37,6 +38,9 @@ const IDLING: u64 = 200;
 /// How often rows that have ended are purged, in milliseconds.
 const PURGING: u64 = 1_000;
 
+/// How soon all who may ask a peer are woken again until the node is up to date, in milliseconds: with `IDLING` behind it each second.
+const ASKING: u64 = 800;
+
 /// Has the node no longer wait for a peer that doesn't answer, and has it be up to date if nobody has more to teach.
 fn pass<N: Wait + Clock>(rt: &N, node: &Node, now: u64) {
     let passed = node.catching_up.pass(rt, now);
@@ -51,6 +55,15 @@ fn pass<N: Wait + Clock>(rt: &N, node: &Node, now: u64) {
     }
 }
 
+/// Wakes the workers of all peers once the time `due` has come, unless the node is up to date, so that a peer that is to be asked by now is.
+/// Sets the next time.
+fn wake_askers<N: Wait>(rt: &N, node: &Node, due: &mut u64, now: u64) {
+    if now >= *due && !node.catching_up.is_up_to_date(rt) {
+        *due = now.saturating_add(ASKING);
+        node.ring_all(rt);
+    }
+}
+
 /// Notes whether the node was held up since the last look, which the log says. Whoever is waited for has its time anew then.
 fn look_at_clock<N: Wait + Clock>(rt: &N, node: &Node, last: &mut LastLook, now: u64) {
     if let Some(milliseconds) = last.look(now) {
@@ -62,6 +75,7 @@ fn look_at_clock<N: Wait + Clock>(rt: &N, node: &Node, last: &mut LastLook, now:
 /// Looks after the tables until the node stops.
 fn keep_tables<N: Wait + Clock>(rt: &N, node: &Node, mut seat: Seat) {
     let mut purge = 0;
+    let mut asking = 0;
     let mut renewal = Renewal::new();
     let mut last = LastLook::new(node.clock.milliseconds(rt));
     for _ in rt.forever() {
@@ -78,6 +92,7 @@ fn keep_tables<N: Wait + Clock>(rt: &N, node: &Node, mut seat: Seat) {
         let soon = keep(rt, node, &mut seat, &mut renewal, purges);
         look_at_numbers(rt, node);
         pass(rt, node, now);
+        wake_askers(rt, node, &mut asking, now);
         let time = if soon { KEEPING } else { IDLING };
         // (the node's own work isn't a standstill)
         last = LastLook::new(node.clock.milliseconds(rt));
@@ -291,7 +306,16 @@ where
 }
 
 /// Makes the node of a configuration, and opens its ports.
-fn begun<N: Net<Listener = TcpListener, Stream = TcpStream> + Files + Clock>(
+fn begun<
+    N: Net<Listener = TcpListener, Stream = TcpStream>
+        + Files
+        + Threads
+        + Wait
+        + Clock
+        + Copy
+        + Send
+        + 'static,
+>(
     rt: &N,
     alloc: Global,
     configuration: Configuration,
@@ -331,6 +355,7 @@ where
     N::Dir: Send + Sync,
 {
     let (node, seats, ports) = begun(rt, alloc, configuration, pid)?;
+    let _kept = node.spare.keep(rt, &ports.peers);
     let Some(writer) = start_log(rt, &node, log) else {
         ports.remove_file(rt);
         return Err(StartError::no_thread(alloc));
@@ -352,8 +377,9 @@ where
 ///
 /// If a line of the configuration is `log journal`, each line to `errors` begins with the number of an error for systemd's journal.
 ///
-/// Ends with `Device` if a port can't be opened or a thread can't be started; `errors` then has a line that says which, and why. It
-/// opens all ports and starts all threads but the readers of connections before it connects to a peer, or takes a connection of one.
+/// Ends with `Device` if `input` can't be read, a port can't be opened or a thread can't be started; `errors` then has a line that says
+/// which, and why. It opens all ports and starts all threads but the readers of connections before it connects to a peer, or takes a
+/// connection of one.
 pub fn run<
     N: Net<Listener = TcpListener, Stream = TcpStream>
         + Files
@@ -372,9 +398,9 @@ where
     N::File: Send + Sync,
     N::Dir: Send + Sync,
 {
-    let text = match read_to_end(alloc, input) {
+    let text = match read_text(alloc, input, errors) {
         Ok(text) => text,
-        Err(error) => return Ending::from(error).said(alloc, errors),
+        Err(ending) => return ending,
     };
     let mut errors = Marked::new(errors, says_journal(text.as_slice()));
     let mut given = Counting::new(text.as_slice());

@@ -1,9 +1,10 @@
 //! A session with a peer, from its connection to its end.
 
+use crate::acknowledged::are_acknowledged;
 use crate::brought::brought_on;
 use crate::clock::milliseconds;
 use crate::definitions::Comparison;
-use crate::ends::{FailureCodes, cause_of, cause_text, end_of_closed, end_of_error};
+use crate::ends::{FailureCodes, cause_of, cause_text, end_of_closed, end_of_error, has_done_all};
 use crate::inbox::{Inbox, receive};
 use crate::intake::Intake;
 use crate::node::Node;
@@ -11,13 +12,19 @@ use crate::outbox::Outbox;
 use crate::slot::Slot;
 use crate::status::Totals;
 use crate::tables::{close, forget, forget_all, number_of, reopen};
-use admin_port::{PassedOver, PeerRole, PeerState};
-use node_core::{Brought, Failure, NoSession, PeerEvent, ResyncEnd, SessionEnd, Ticks, Traffic};
+use admin_port::{PassedOver, PeerRole};
+use node_core::{
+    Brought, Busy, Failure, NoSession, PeerEvent, ResyncEnd, SessionEnd, Ticks, Traffic,
+};
 use node_log::pid_of;
+use node_rules::{
+    EndNews, EndedConnection, Ending, Learning, Outside, Resync, ResyncsHeard, Teaching,
+    end_of_over, resync_end,
+};
 use peers_devices::Writes;
 use peers_engine::{AlwaysOpen, EngineError, Outcome, Worker};
 use peers_hello::{Hello, Status, read_status};
-use session_core::{Controls, Session, State};
+use session_core::{Controls, Event, Session, State};
 use std::alloc::AllocError;
 use std::net::{Shutdown, SocketAddr, TcpStream};
 use std::sync::{Arc, Wait};
@@ -26,9 +33,6 @@ use std::thread::{Scope, Threads};
 use std::time::Clock;
 use table_shards::Seat;
 use table_types::{Memory, Moment, Name, Version, table_at};
-
-/// From when a session begins to when its turns push rows, in milliseconds, as the session's machine has it.
-const PUSHES: u64 = 300;
 
 /// A peer's place in a node that runs.
 #[derive(Drop)]
@@ -49,6 +53,22 @@ pub(crate) struct Connection {
     pub(crate) version: Version,
     /// The bytes that were read from it.
     pub(crate) bytes: Vec<u8>,
+}
+
+/// Returns the status that the first bytes of a connection say, if they are one.
+fn status_in(head: &[u8]) -> Option<u16> {
+    match read_status(head) {
+        Status::Code(code, _) => Some(code),
+        Status::Other(_) | Status::More => None,
+    }
+}
+
+/// Returns how many resyncs the peer has ended, given the control messages that it has sent.
+fn heard_in(controls: Controls) -> ResyncsHeard {
+    ResyncsHeard {
+        finished: controls.finished,
+        partial: controls.partial,
+    }
 }
 
 /// Makes the session of a connection with a peer.
@@ -112,27 +132,14 @@ struct Work<'a, N> {
     pid: Option<u64>,
     /// Whether the session knows that the node is up to date.
     up_to_date: bool,
-    /// Whether the session's hello was over.
-    begun: bool,
-    /// When it was, in milliseconds since the node began.
-    begun_at: u64,
-    /// Whether the node stops, and the turns that are idle are counted since the worker saw that.
-    stopping: bool,
-    /// The control messages received before the last resync request, if it isn't answered.
-    asking: Option<Controls>,
-    /// The rows that were learned and taught before the resync that isn't over.
-    rows: (u64, u64),
-    /// When the resyncs that aren't over began, in which the node is the learner and the teacher, in milliseconds since the node began.
-    since: (u64, u64),
+    ending: Ending,
+    learning: Learning,
+    teaching: Teaching,
     /// What the peer had brought at the last look.
     brought: Brought,
-    /// Whether the session was teaching in a resync.
-    teaching: bool,
-    /// The rows that were taught by the last look, and how many resyncs had ended by then in which the node was the teacher.
-    looked: (u64, u64),
-    /// The turns in a row in which there was nothing to do.
-    idle: usize,
     ticks: Ticks,
+    /// When the worker last looked whether a tick comes, in milliseconds since the node began, and how long the writes had taken by then.
+    tick_look: (u64, u64),
     /// The tables that the session has left, as far as the log says so.
     left: Vec<u64>,
     /// Whether the log says that a table was passed over.
@@ -170,17 +177,12 @@ impl<'a, N: Wait + Clock> Work<'a, N> {
             role,
             pid,
             up_to_date: false,
-            begun: false,
-            begun_at: 0,
-            stopping: false,
-            asking: None,
-            rows: (0, 0),
-            since: (0, 0),
+            ending: Ending::new(),
+            learning: Learning::new(),
+            teaching: Teaching::new(),
             brought: Brought::nothing(),
-            teaching: false,
-            looked: (0, 0),
-            idle: 0,
             ticks: Ticks::new(node.clock.milliseconds(rt)),
+            tick_look: (0, 0),
             left: Vec::new(node.alloc),
             passes_over: false,
             error: None,
@@ -193,8 +195,11 @@ impl<'a, N: Wait + Clock> Work<'a, N> {
         let rt = self.rt;
         let tables = self.node.roster.tables().len();
         let mut seen = 0;
+        if let Some(end) = self.catch_up(self.node.clock.now(rt)) {
+            return self.last_end(end);
+        }
         for _ in rt.forever() {
-            if self.idle == 0 {
+            if self.ending.is_at_work() {
                 seen = self.slot.bell.rings(rt);
             }
             if let Some(end) = self.step() {
@@ -203,8 +208,8 @@ impl<'a, N: Wait + Clock> Work<'a, N> {
             if let Some(end) = self.interruption() {
                 return end;
             }
-            if self.idle >= tables {
-                self.idle = 0;
+            if self.ending.may_rest(tables) {
+                self.ending.rest();
                 forget_all(self.node, &mut self.worker.seat);
                 self.report();
                 let now = self.node.clock.milliseconds(rt);
@@ -215,57 +220,24 @@ impl<'a, N: Wait + Clock> Work<'a, N> {
         unreachable!()
     }
 
-    /// Returns whether there was nothing to do in the last turns, and the peer has acknowledged what it was taught of each table that
-    /// it has.
-    fn is_settled(&self) -> bool {
-        let tables = self.worker.session.tables();
-        self.idle >= tables.len()
-            && tables
-                .iter()
-                .all(|table| table.left || table.taught == table.acknowledged)
-    }
-
-    /// Returns whether the session has begun and its turns don't push yet.
-    fn is_young(&self) -> bool {
-        let now = self.node.clock.milliseconds(self.rt);
-        self.begun && now.saturating_sub(self.begun_at) < PUSHES
-    }
-
-    /// Returns whether the node stops and nothing is left to teach of what it has answered.
-    ///
-    /// A requester answers a change only if the node didn't stop yet when the row was in the table already. So the row was there before
-    /// this worker saw that the node stops. Only turns that came after that count as idle, and each of them looked at its table, under
-    /// the table's lock; so one of them would have found the row.
-    fn has_taught_all(&mut self) -> bool {
-        if !self.node.stops() || self.is_young() {
-            return false;
-        }
-        if !self.stopping {
-            self.stopping = true;
-            self.idle = 0;
-        }
-        self.is_settled()
-    }
-
-    /// Returns why the worker ends the session, if it does: the peer has connected again, a table gets new numbers, or the node stops
-    /// and nothing is left to teach.
+    /// Returns why the session is to end now for what happens outside it, if it is.
     fn interruption(&mut self) -> Option<SessionEnd> {
-        if self.slot.has_arrival(self.rt) {
-            Some(SessionEnd::Replaced)
-        } else if self.node.is_paused() || self.has_taught_all() {
-            Some(SessionEnd::End)
-        } else {
-            None
-        }
+        let outside = Outside {
+            replaced: self.slot.has_arrival(self.rt),
+            paused: self.node.is_paused(),
+            stops: self.node.stops(),
+        };
+        let now = self.node.clock.milliseconds(self.rt);
+        let tables = self.worker.session.progress();
+        let count = tables.len();
+        let acknowledged = outside.stops && are_acknowledged(tables);
+        self.ending.look(now, outside, count, acknowledged)
     }
 
     /// Returns why a session that is over ended, given what a turn or a tick of it came to.
     fn last_end(&mut self, end: SessionEnd) -> SessionEnd {
-        match self.interruption() {
-            Some(interruption) => interruption,
-            None if self.node.stops() => SessionEnd::End,
-            None => end,
-        }
+        let interruption = self.interruption();
+        end_of_over(end, self.node.stops(), interruption)
     }
 
     /// Notes the error that ends the session, and returns why that is over.
@@ -274,7 +246,7 @@ impl<'a, N: Wait + Clock> Work<'a, N> {
         end_of_error(error)
     }
 
-    /// Notes what went over the connection.
+    /// Notes what went over the connection, and how long the writes took since the last look whether a tick comes.
     fn note_traffic(&mut self) {
         let controls = self.worker.session.controls();
         let traffic = Traffic {
@@ -288,13 +260,19 @@ impl<'a, N: Wait + Clock> Work<'a, N> {
                 .wrapping_add(controls.heartbeats),
             sent_at: self.to.begun,
         };
+        let (since, taken) = self.tick_look;
+        let busy = Busy {
+            since,
+            writing: self.to.taken.saturating_sub(taken),
+        };
         let now = self.node.clock.milliseconds(self.rt);
-        self.ticks.note(now, traffic);
+        self.ticks.note(now, busy, traffic);
     }
 
     /// Takes a tick if one is due, and a turn. Returns why the session ended, if it did.
     fn step(&mut self) -> Option<SessionEnd> {
         let begun = self.node.clock.milliseconds(self.rt);
+        self.tick_look = (begun, self.to.taken);
         if self.ticks.is_tick(begun, self.from.arrived()) {
             if let Some(end) = self.take_tick() {
                 return Some(end);
@@ -313,10 +291,7 @@ impl<'a, N: Wait + Clock> Work<'a, N> {
             now,
         );
         self.note_traffic();
-        self.idle = match &turned {
-            Ok(Outcome::Idled) => self.idle.saturating_add(1),
-            _ => 0,
-        };
+        self.ending.turn(matches!(&turned, Ok(Outcome::Idled)));
         match turned {
             Ok(Outcome::Worked | Outcome::Idled) => self.look(now),
             Ok(Outcome::Closed) => Some(self.closed()),
@@ -324,18 +299,24 @@ impl<'a, N: Wait + Clock> Work<'a, N> {
         }
     }
 
-    /// Takes a tick, and does what else is to be done now and then. Returns why the session ended, if it did.
-    fn take_tick(&mut self) -> Option<SessionEnd> {
-        let now = self.node.clock.now(self.rt);
+    /// Gives the session an event of the node's own, and performs what it asks for.
+    fn take(&mut self, event: Event, now: Moment) -> Result<Outcome, EngineError> {
         self.to.begin_turn();
-        let ticked = self.worker.tick(
+        self.worker.take(
             self.rt,
             self.node.alloc,
             &mut self.to,
             &mut self.writes,
             &self.node.shards,
+            event,
             now,
-        );
+        )
+    }
+
+    /// Takes a tick, and does what else is to be done now and then. Returns why the session ended, if it did.
+    fn take_tick(&mut self) -> Option<SessionEnd> {
+        let now = self.node.clock.now(self.rt);
+        let ticked = self.take(Event::Tick, now);
         self.look_at_left();
         self.look_at_passed_over();
         self.compare_definitions();
@@ -359,38 +340,48 @@ impl<'a, N: Wait + Clock> Work<'a, N> {
         self.look_at_teaching();
         self.look_at_rows();
         self.look_at_asking();
-        self.catch_up();
+        if let Some(end) = self.catch_up(now) {
+            return Some(end);
+        }
         if self.up_to_date || !self.ask_if_next() {
             return None;
         }
         self.begin_asking();
-        self.to.begin_turn();
-        match self.worker.request(&mut self.to, &mut self.writes, now) {
+        let end = self.tell(Event::Ask, now);
+        self.note_traffic();
+        end
+    }
+
+    /// Gives the session an event of the node's own. Returns why the session ended, if it did.
+    fn tell(&mut self, event: Event, now: Moment) -> Option<SessionEnd> {
+        match self.take(event, now) {
             Ok(_) => None,
             Err(error) => Some(self.fail(error)),
         }
     }
 
     /// Has the session's resyncs end as finished once the node is up to date. One that is under way still ends as partial, since it
-    /// doesn't teach what the node has learned since it began.
-    fn catch_up(&mut self) {
-        if !self.up_to_date && !self.teaching && self.node.catching_up.is_up_to_date(self.rt) {
-            self.up_to_date = true;
-            self.worker.session.catch_up();
+    /// doesn't teach what the node has learned since it began. Returns why the session ended, if it did.
+    fn catch_up(&mut self, now: Moment) -> Option<SessionEnd> {
+        if self.up_to_date
+            || self.teaching.is_under_way()
+            || !self.node.catching_up.is_up_to_date(self.rt)
+        {
+            return None;
         }
+        self.up_to_date = true;
+        self.tell(Event::CaughtUp, now)
     }
 
     /// Notes that the session's hello is over.
     fn begin(&mut self) {
-        if self.begun {
+        let now = self.node.clock.milliseconds(self.rt);
+        if !self.ending.begin(now) {
             return;
         }
-        self.begun = true;
-        let now = self.node.clock.milliseconds(self.rt);
-        self.begun_at = now;
         let version = self.worker.session.version();
         let mut status = self.slot.status(self.rt);
-        let process = status.begin(now, version, self.pid);
+        let process = status.record.begin(now, version, self.pid);
         drop(status);
         self.node.catching_up.begin(self.rt, self.peer);
         self.log(PeerEvent::Connected {
@@ -407,66 +398,36 @@ impl<'a, N: Wait + Clock> Work<'a, N> {
 
     /// Notes the state that the session is in.
     fn set_state(&mut self) {
-        let state = if self.asking.is_some() {
-            PeerState::Asking
-        } else if self.teaching {
-            PeerState::Teaching
-        } else {
-            PeerState::Ready
-        };
         let mut status = self.slot.status(self.rt);
-        status.state = state;
-        status.teaches = self.teaching;
+        let (asking, teaching) = (self.learning.is_under_way(), self.teaching.is_under_way());
+        status.record.go_on(asking, teaching);
     }
 
     /// Notes whether the session has begun or ended a resync as the teacher since the last look. It may have done both.
     fn look_at_teaching(&mut self) {
         let counts = self.worker.session.counts();
-        let (taught, resyncs) = self.looked;
-        self.looked = (counts.taught, counts.resyncs);
-        let was_teaching = self.teaching;
-        self.teaching = self.worker.session.state() == State::Teaching;
-        if counts.resyncs > resyncs {
-            if !was_teaching {
-                self.begin_teaching(taught);
-            }
-            let end = self.resync_end();
-            self.end_teaching(end);
-            if self.teaching {
-                self.begin_teaching(counts.taught);
-            }
-        } else if self.teaching && !was_teaching {
-            self.begin_teaching(taught);
+        let was_teaching = self.teaching.is_under_way();
+        let teaching = self.worker.session.state() == State::Teaching;
+        let now = self.node.clock.milliseconds(self.rt);
+        let (taught, ended) = (counts.taught, counts.resyncs);
+        if let Some(resync) = self.teaching.look(now, taught, ended, teaching) {
+            let tables = self.worker.session.progress();
+            let has_left = tables.iter().any(|table| table.left);
+            self.end_teaching(resync_end(self.up_to_date, has_left), resync);
         }
-        if self.teaching != was_teaching {
+        if teaching != was_teaching {
             self.set_state();
-        }
-    }
-
-    /// Notes that a resync has begun in which the node is the teacher, and how many rows were taught before it.
-    fn begin_teaching(&mut self, taught: u64) {
-        self.rows.1 = taught;
-        self.since.1 = self.node.clock.milliseconds(self.rt);
-    }
-
-    /// Returns how a resync ends now in which the node is the teacher.
-    fn resync_end(&self) -> ResyncEnd {
-        let left = self.worker.session.tables().iter().any(|table| table.left);
-        if self.up_to_date && !left {
-            ResyncEnd::Finished
-        } else {
-            ResyncEnd::Partial
         }
     }
 
     /// Adds a line to the log for each table that the session has left. Those for which the log has no room come at a later tick.
     fn look_at_left(&mut self) {
-        for index in 0..self.worker.session.tables().len() {
-            let Some(tally) = self.worker.session.tables().get(index) else {
+        for index in 0..self.worker.session.progress().len() {
+            let Some(progress) = self.worker.session.progress().get(index) else {
                 return;
             };
-            let table = tally.table;
-            if tally.left && !self.left.contains(&table) && self.log_left(table) {
+            let table = progress.table;
+            if progress.left && !self.left.contains(&table) && self.log_left(table) {
                 let _noted = self.left.push(table);
             }
         }
@@ -487,17 +448,15 @@ impl<'a, N: Wait + Clock> Work<'a, N> {
     }
 
     /// Notes how a resync ended in which the node was the teacher.
-    fn end_teaching(&mut self, end: ResyncEnd) {
+    fn end_teaching(&mut self, end: ResyncEnd, resync: Resync) {
         let mut status = self.slot.status(self.rt);
-        status.end_teaching(end);
+        status.record.end_teaching(end);
         drop(status);
-        let now = self.node.clock.milliseconds(self.rt);
-        let taught = self.worker.session.counts().taught;
         self.log(PeerEvent::ResyncEnded {
             taught: true,
             end,
-            rows: taught.saturating_sub(self.rows.1),
-            milliseconds: now.saturating_sub(self.since.1),
+            rows: resync.rows,
+            milliseconds: resync.milliseconds,
         });
     }
 
@@ -511,7 +470,7 @@ impl<'a, N: Wait + Clock> Work<'a, N> {
     fn look_at_rows(&mut self) {
         let before = self.brought;
         self.brought = brought_on(&self.worker.session, self.from.total);
-        if self.asking.is_some() && self.brought.is_more_than(before) {
+        if self.learning.is_under_way() && self.brought.is_more_than(before) {
             let now = self.node.clock.milliseconds(self.rt);
             self.node.catching_up.hear(self.rt, self.peer, now);
         }
@@ -519,11 +478,10 @@ impl<'a, N: Wait + Clock> Work<'a, N> {
 
     /// Notes that the session is asked for a resync. One that was asked for before, and hasn't ended, goes on as the same one.
     fn begin_asking(&mut self) {
-        if self.asking.is_none() {
-            self.rows.0 = self.worker.session.counts().learned;
-            self.since.0 = self.node.clock.milliseconds(self.rt);
-        }
-        self.asking = Some(self.worker.session.controls());
+        let now = self.node.clock.milliseconds(self.rt);
+        let learned = self.worker.session.counts().learned;
+        let heard = heard_in(self.worker.session.controls());
+        self.learning.ask(now, learned, heard);
         self.set_state();
         self.log(PeerEvent::Asked);
     }
@@ -543,42 +501,35 @@ impl<'a, N: Wait + Clock> Work<'a, N> {
 
     /// Notes how a resync ended in which the node was the learner.
     fn end_learning(&mut self, end: ResyncEnd) {
-        self.asking = None;
-        if end != ResyncEnd::Broken {
-            self.comparison.note_taught();
-        }
-        let mut status = self.slot.status(self.rt);
-        status.end_learning(end);
-        drop(status);
         let now = self.node.clock.milliseconds(self.rt);
-        let learned = self.worker.session.counts().learned;
+        let resync = self.learning.end(now, self.worker.session.counts().learned);
+        self.comparison.end_resync(now, end);
+        let mut status = self.slot.status(self.rt);
+        status.record.end_learning(end);
+        drop(status);
         self.log(PeerEvent::ResyncEnded {
             taught: false,
             end,
-            rows: learned.saturating_sub(self.rows.0),
-            milliseconds: now.saturating_sub(self.since.0),
+            rows: resync.rows,
+            milliseconds: resync.milliseconds,
         });
     }
 
     /// Notes whether the resync that the session was asked for is over.
     fn look_at_asking(&mut self) {
-        let Some(before) = self.asking else {
+        let heard = heard_in(self.worker.session.controls());
+        let Some(end) = self.learning.end_of(heard) else {
             return;
         };
-        let controls = self.worker.session.controls();
-        if controls.finished > before.finished {
-            let done = self.node.catching_up.finish(self.rt, self.peer);
-            self.node.tell_of_catching_up(self.rt);
-            self.end_learning(ResyncEnd::Finished);
-            self.set_state();
-            if done {
-                self.node.log_up_to_date(self.rt, Some(self.peer));
-            }
-        } else if controls.partial > before.partial {
+        let done = end == ResyncEnd::Finished && self.node.catching_up.finish(self.rt, self.peer);
+        if end == ResyncEnd::Partial {
             self.node.catching_up.finish_partly(self.rt, self.peer);
-            self.node.tell_of_catching_up(self.rt);
-            self.end_learning(ResyncEnd::Partial);
-            self.set_state();
+        }
+        self.node.tell_of_catching_up(self.rt);
+        self.end_learning(end);
+        self.set_state();
+        if done {
+            self.node.log_up_to_date(self.rt, Some(self.peer));
         }
     }
 
@@ -619,7 +570,7 @@ impl<'a, N: Wait + Clock> Work<'a, N> {
     fn report(&mut self) {
         let totals = self.totals();
         let mut status = self.slot.status(self.rt);
-        let _noted = status.note(totals, self.worker.session.tables());
+        let _noted = status.note(totals, self.worker.session.progress());
     }
 
     /// Returns the name of the remote peer's fault that ended the session, if one did.
@@ -645,25 +596,29 @@ impl<'a, N: Wait + Clock> Work<'a, N> {
     }
 
     /// Notes what the turn in which the session ended came to: a hello of the peer that was over, and the end of the resync that the session
-    /// was asked for.
+    /// was asked for, unless an error came before all was done.
     fn look_at_last_turn(&mut self) {
         if self.role == PeerRole::Accept && self.worker.session.version().is_some() {
             self.begin();
         }
-        self.look_at_asking();
+        if has_done_all(self.error) {
+            self.look_at_asking();
+        }
     }
 
     /// Notes that the session is over, and that a resync under way is broken, unless it ended in the last turn.
     fn end(&mut self, end: SessionEnd) {
         self.look_at_last_turn();
-        if self.teaching {
-            self.end_teaching(ResyncEnd::Broken);
+        let now = self.node.clock.milliseconds(self.rt);
+        let taught = self.worker.session.counts().taught;
+        if let Some(resync) = self.teaching.broken(now, taught) {
+            self.end_teaching(ResyncEnd::Broken, resync);
         }
-        if self.begun {
+        if self.ending.has_begun() {
             self.node.catching_up.end(self.rt, self.peer);
             self.node.tell_of_catching_up(self.rt);
         }
-        if self.asking.is_some() {
+        if self.learning.is_under_way() {
             self.end_learning(ResyncEnd::Broken);
         }
         self.report();
@@ -679,19 +634,20 @@ impl<'a, N: Wait + Clock> Work<'a, N> {
     /// before, or was given up.
     fn log_end(&self, end: SessionEnd, far: Option<SocketAddr>) {
         let cause = self.cause(end);
-        if self.begun {
-            self.log_event_at(
-                far,
-                PeerEvent::Ended {
-                    end,
-                    cause: cause.as_bytes(),
-                },
-            );
-        } else if self.is_attempt(end) {
-            match self.refusal() {
-                Some(status) => self.log_refusal(far, status),
-                None => self.log_no_session(end, far, cause.as_bytes()),
-            }
+        let connection = EndedConnection {
+            begun: self.ending.has_begun(),
+            connects: self.role == PeerRole::Connect,
+            lacking: false,
+            end,
+            status: status_in(self.from.head()),
+            given_up: self.node.stops() || self.node.is_paused(),
+        };
+        let cause = cause.as_bytes();
+        match connection.news() {
+            EndNews::Session => self.log_event_at(far, PeerEvent::Ended { end, cause }),
+            EndNews::Refusal(status) => self.log_refusal(far, status),
+            EndNews::NoSession => self.log_no_session(end, far, cause),
+            EndNews::Nothing => {}
         }
     }
 
@@ -713,7 +669,7 @@ impl<'a, N: Wait + Clock> Work<'a, N> {
     /// Notes why an attempt of this node failed. Returns whether the one before failed otherwise, if it did.
     fn is_news(&self, failure: Failure) -> bool {
         let mut status = self.slot.status(self.rt);
-        status.fail(failure)
+        status.record.fail(failure)
     }
 
     /// Notes that the peer refused this node's hello, and adds a line to the log if that is news.
@@ -729,22 +685,6 @@ impl<'a, N: Wait + Clock> Work<'a, N> {
         let why = cause_of(end, self.from.head());
         if self.is_news(Failure::NoSession(why)) {
             self.log_event_at(far, PeerEvent::NoSession { why, cause });
-        }
-    }
-
-    /// Returns whether the connection that ended so was an attempt of this node that nobody gave up.
-    fn is_attempt(&self, end: SessionEnd) -> bool {
-        self.role == PeerRole::Connect
-            && end != SessionEnd::Replaced
-            && !self.node.stops()
-            && !self.node.is_paused()
-    }
-
-    /// Returns the status with which the peer refused this node's hello, if it did.
-    fn refusal(&self) -> Option<u16> {
-        match read_status(self.from.head()) {
-            Status::Code(code, _) if self.role == PeerRole::Connect && code != 200 => Some(code),
-            _ => None,
         }
     }
 }
@@ -769,7 +709,7 @@ pub(crate) fn hold<N: Threads + Wait + Clock + Sync>(
         bytes,
     } = connection;
     let Ok(stream) = noted(place, stream) else {
-        give_up(place);
+        give_up(place, role);
         return (seat, false);
     };
     if node.stops() || node.is_paused() {
@@ -792,22 +732,30 @@ pub(crate) fn hold<N: Threads + Wait + Clock + Sync>(
             fell_back = worker.session.fell_back();
             seat = worker.seat;
         }
-        None => give_up(place),
+        None => give_up(place, role),
     }
     close(place.rt, node, &mut seat, number);
     place.slot.set_present(place.rt, None);
     (seat, fell_back)
 }
 
-/// Notes that the session over a connection couldn't begin, for want of memory or of a thread.
-fn give_up<N: Wait + Clock>(place: &Place<'_, N>) {
+/// Notes that the session over a connection couldn't begin, for want of memory or of a thread, and adds a line to the log if that is news.
+fn give_up<N: Wait + Clock>(place: &Place<'_, N>, role: PeerRole) {
     let (rt, node) = (place.rt, place.node);
     let now = node.clock.milliseconds(rt);
-    let end = SessionEnd::Error;
+    let connection = EndedConnection {
+        begun: false,
+        connects: role == PeerRole::Connect,
+        lacking: true,
+        end: SessionEnd::Error,
+        status: None,
+        given_up: node.stops() || node.is_paused(),
+    };
     let mut status = place.slot.status(rt);
-    status.end(end, now);
+    status.end(connection.end, now);
     let why = NoSession::Lacking;
-    let is_news = status.fail(Failure::NoSession(why));
+    let is_news = matches!(connection.news(), EndNews::NoSession)
+        && status.record.fail(Failure::NoSession(why));
     drop(status);
     if is_news {
         let cause = &[];
@@ -847,7 +795,6 @@ fn hold_over<N: Threads + Wait + Clock + Sync>(
         peer: place.peer,
     };
     let mut work = Work::new(here, role, pid, from, to, worker);
-    work.catch_up();
     work_and_read(rt, &mut work, stream, &inbox, slot);
     let Work { worker, .. } = work;
     worker
@@ -890,7 +837,7 @@ fn work_in<'s, 'a, E: 's, N: Threads + Wait + Clock + Sync>(
                 slot: &*slot,
                 peer: work.peer,
             };
-            give_up(&place);
+            give_up(&place, work.role);
         }
     }
 }

@@ -3,6 +3,7 @@
 use crate::bell::Bell;
 use crate::definitions::SaidOfTables;
 use crate::status::PeerStatus;
+use node_rules::Arrivals;
 use std::alloc::Global;
 use std::mem;
 use std::net::{Shutdown, TcpStream};
@@ -21,11 +22,10 @@ pub(crate) struct Arrival {
 
 /// The connections that come to the worker of a peer: those whose hello named the peer and this node.
 #[derive(Drop)]
-struct Arrivals {
+struct Coming {
     /// The one that waits for the worker.
     waiting: Option<Arrival>,
-    /// The greatest number of those that came.
-    latest: u64,
+    arrivals: Arrivals,
 }
 
 /// The place of a peer: what wakes its worker, a connection that waits for it, and what is known of it.
@@ -33,7 +33,7 @@ struct Arrivals {
 pub(crate) struct Slot {
     /// What wakes the peer's worker.
     pub(crate) bell: Bell,
-    arrivals: Mutex<Arrivals>,
+    coming: Mutex<Coming>,
     /// The connection of the session that stands.
     present: Mutex<Option<Arc<TcpStream>>>,
     status: Mutex<PeerStatus>,
@@ -45,9 +45,9 @@ impl Slot {
     pub(crate) fn new(alloc: Global) -> Slot {
         Slot {
             bell: Bell::new(),
-            arrivals: Mutex::new(Arrivals {
+            coming: Mutex::new(Coming {
                 waiting: None,
-                latest: 0,
+                arrivals: Arrivals::new(),
             }),
             present: Mutex::new(None),
             status: Mutex::new(PeerStatus::new(alloc)),
@@ -58,13 +58,13 @@ impl Slot {
     /// Has a connection wait for the worker if none waits, no session stands, and none came that was accepted after it. Otherwise gives
     /// it back.
     pub(crate) fn offer<R: Wait>(&self, rt: &R, arrival: Arrival) -> Option<Arrival> {
-        let mut arrivals = self.arrivals.lock(rt);
-        if arrivals.waiting.is_some() || arrival.number < arrivals.latest || self.has_session(rt) {
+        let mut coming = self.coming.lock(rt);
+        let has_other = coming.waiting.is_some() || self.has_session(rt);
+        if !coming.arrivals.offer(arrival.number, has_other) {
             return Some(arrival);
         }
-        arrivals.latest = arrival.number;
-        arrivals.waiting = Some(arrival);
-        drop(arrivals);
+        coming.waiting = Some(arrival);
+        drop(coming);
         self.bell.ring(rt);
         None
     }
@@ -73,25 +73,25 @@ impl Slot {
     /// stands, so that its worker doesn't wait for it. The worker can only afterwards take the one that waits now, so this never shuts
     /// that one down.
     pub(crate) fn arrive<R: Wait>(&self, rt: &R, arrival: Arrival) {
-        let mut arrivals = self.arrivals.lock(rt);
+        let mut coming = self.coming.lock(rt);
         self.shut(rt);
-        arrivals.latest = arrivals.latest.max(arrival.number);
-        let former = mem::replace(&mut arrivals.waiting, Some(arrival));
-        drop(arrivals);
+        coming.arrivals.arrive(arrival.number);
+        let former = mem::replace(&mut coming.waiting, Some(arrival));
+        drop(coming);
         drop(former);
         self.bell.ring(rt);
     }
 
     /// Returns whether a connection waits.
     pub(crate) fn has_arrival<R: Wait>(&self, rt: &R) -> bool {
-        let arrivals = self.arrivals.lock(rt);
-        arrivals.waiting.is_some()
+        let coming = self.coming.lock(rt);
+        coming.waiting.is_some()
     }
 
     /// Takes the connection that waits, if there is one.
     pub(crate) fn take_arrival<R: Wait>(&self, rt: &R) -> Option<Arrival> {
-        let mut arrivals = self.arrivals.lock(rt);
-        mem::replace(&mut arrivals.waiting, None)
+        let mut coming = self.coming.lock(rt);
+        mem::replace(&mut coming.waiting, None)
     }
 
     /// Notes the connection of the session that stands, or that none does.

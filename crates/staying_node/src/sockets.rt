@@ -147,7 +147,8 @@ fn open_at<N: Net + Files>(rt: &N, path: &str) -> io::Result<UnixListener> {
     }
 }
 
-/// Returns whether the file at a path is that of a socket on which nobody listens. Fails if it isn't that of a socket.
+/// Returns whether the file at a path is that of a socket on which nobody listens. Fails if it isn't that of a socket, or if a connection to
+/// it fails otherwise than by a refusal. Waits as long as whoever listens there takes no connection, if many wait for that already.
 fn is_stale<N: Net + Files>(rt: &N, path: &str) -> io::Result<bool> {
     let found = fs::symlink_metadata(rt, path)?;
     if !found.file_type().is_socket() {
@@ -155,7 +156,8 @@ fn is_stale<N: Net + Files>(rt: &N, path: &str) -> io::Result<bool> {
         return Err(Error::new(ErrorKind::AlreadyExists, message));
     }
     match UnixStream::connect(rt, path) {
-        Err(error) => Ok(error.kind() == ErrorKind::ConnectionRefused),
+        Err(error) if error.kind() == ErrorKind::ConnectionRefused => Ok(true),
+        Err(error) => Err(error),
         Ok(_) => Ok(false),
     }
 }

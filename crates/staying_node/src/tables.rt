@@ -13,7 +13,7 @@ use table_shards::{Locked, Seat, ShardError};
 use table_types::{Moment, TableDef, Version};
 
 /// A history with this many events slides, and a seat with this many receipts of a table drops them.
-pub(crate) const MANY: u64 = 1_024;
+pub(crate) const MANY: u64 = 256;
 
 /// The next number of a table from which on it gets new ones.
 const RENEWAL: u64 = 1 << 31;
@@ -46,7 +46,7 @@ fn history(cell: &TableCell) -> u64 {
 }
 
 /// Drops the history of a table if it is long, but for the latest batch of each session. Returns whether it was long.
-pub(crate) fn slide(locked: &mut Locked, seat: &mut Seat, table: u64) -> bool {
+pub(crate) fn slide(locked: &mut Locked, seat: &Seat, table: u64) -> bool {
     let long = history(locked.cell()) >= MANY;
     if long {
         let _dropped = lent::slide(locked, seat, table);
@@ -78,7 +78,7 @@ fn is_spent(locked: &Locked) -> bool
 /// Gives a table new numbers if its next one is `RENEWAL` or more. Returns whether that has still to be done, since a session is open in
 /// the table or memory ran out.
 #[tactic(auto, using(crate::proofs::RenewalLaws::renews, crate::proofs::RenewalLaws::waits))]
-fn renumber(locked: &mut Locked, seat: &mut Seat, table: u64) -> bool
+fn renumber(locked: &mut Locked, seat: &Seat, table: u64) -> bool
     ensures { Renews locked.old result locked.new }
 {
     if !is_spent(locked) {
@@ -143,7 +143,7 @@ pub(crate) fn keep<R: Wait + Clock>(
 ) -> bool {
     let now = node.clock.now(rt);
     let mut long = false;
-    let mut waits = false;
+    let mut waiting = None;
     for table in node.roster.tables() {
         let id = table.id();
         if let Some(mut locked) = lock(rt, node, id) {
@@ -151,13 +151,34 @@ pub(crate) fn keep<R: Wait + Clock>(
             if purges {
                 purge(&mut locked, seat, id, now);
             }
-            waits = renew(rt, node, &mut locked, seat, table) || waits;
+            if renew(rt, node, &mut locked, seat, table) {
+                waiting = Some(table);
+            }
         }
     }
     forget_all(node, seat);
-    let pauses = renewal.look(waits, node.clock.milliseconds(rt)) == Renewing::Pause;
+    let pauses = is_to_pause(rt, node, renewal, waiting);
     node.set_paused(rt, pauses);
     long || pauses
+}
+
+/// Returns whether no session may stand, given a table that waits for new numbers, if one does. That it was given up is said in the log once
+/// for each time in which tables wait.
+fn is_to_pause<R: Wait + Clock>(
+    rt: &R,
+    node: &Node,
+    renewal: &mut Renewal,
+    waiting: Option<&TableDef>,
+) -> bool {
+    let was_given_up = renewal.is_given_up();
+    let outcome = renewal.look(waiting.is_some(), node.clock.milliseconds(rt));
+    if let Some(table) = waiting {
+        if renewal.is_given_up() && !was_given_up {
+            let table = table.name();
+            node.log_event(rt, Event::NotRenewed { table });
+        }
+    }
+    outcome == Renewing::Pause
 }
 
 /// Closes a session in a table. If there is no room for that in memory or in the table's history, drops what is no longer needed and tries

@@ -1,5 +1,6 @@
 //! Answering HTTP requests.
 
+use crate::kept_page::KeptPage;
 use crate::measuring::{health, metrics};
 use crate::node::Node;
 use crate::reading::{After, Reading};
@@ -35,12 +36,22 @@ fn begin(reading: &mut Reading, request: HttpRequest) -> Result<After, AllocErro
 #[derive(Clone, Copy)]
 pub(crate) struct Viewer<'a> {
     node: &'a Node,
+    /// Where the page of metrics is kept, if it isn't made anew for each request.
+    kept: Option<&'a KeptPage>,
 }
 
 impl<'a> Viewer<'a> {
     /// Returns one of this node.
     pub(crate) fn new(node: &'a Node) -> Viewer<'a> {
-        Viewer { node }
+        Viewer { node, kept: None }
+    }
+
+    /// Returns one of this node that has the page of metrics from where it is kept.
+    pub(crate) fn keeping(node: &'a Node, kept: &'a KeptPage) -> Viewer<'a> {
+        Viewer {
+            node,
+            kept: Some(kept),
+        }
     }
 
     /// Returns the node.
@@ -128,7 +139,10 @@ impl<'a> Viewer<'a> {
     ) -> Result<(), AllocError> {
         let node = self.node;
         match page {
-            Page::Metrics => push_metrics(text, extent, metrics(rt, node)?.as_slice()),
+            Page::Metrics => match self.kept {
+                Some(kept) => kept.push(rt, node, text, extent),
+                None => push_metrics(text, extent, metrics(rt, node)?.as_slice()),
+            },
             Page::Health => push_health(node.alloc, text, extent, &health(rt, node)),
             Page::Ready => push_ready(text, extent),
             Page::Overview => push_overview(text, extent),

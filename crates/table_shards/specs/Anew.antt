@@ -17,4 +17,4 @@ abbrev pub pages_anew : List UnlockedTable → List PageState
 pages_anew ts = fold (λ ps t. pages_seeing t.table (events_of t.cell) ps) [] ts
 
 abbrev pub seat_anew : List UnlockedTable → ℕ → SeatState
-seat_anew ts number = record { number = number; pages = pages_anew ts; answers = 0; latest = None; refused = 0 }
+seat_anew ts number = record { number = number; pages = pages_anew ts; answers = 0; latest = None }

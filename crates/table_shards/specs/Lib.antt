@@ -3,7 +3,6 @@ pub mod Pages
 pub mod Counts
 pub mod Agreement
 pub mod Roll
-pub mod Refusals
 pub mod Holding
 pub mod Noting
 pub mod Audits

@@ -48,7 +48,7 @@ HasRoomIn table ps (rooms.OnNewPage receipts) =
 
 -- the seat of a book
 abbrev pub seat_of : Book → SeatState
-seat_of b = record { number = b.number; pages = page_states b.pages.items; answers = b.answers; latest = b.latest; refused = b.refused }
+seat_of b = record { number = b.number; pages = page_states b.pages.items; answers = b.answers; latest = b.latest }
 
 -- the receipts of a page that is lent, if there is one
 abbrev pub lent_receipts : Option (Bor Page) → List ReceiptState

@@ -18,17 +18,16 @@ pub record PageState : Type 0 where
   pub receipts : List ReceiptState
 
 -- a seat's number, what it has of each table for which it made an event, how many of its calls got an answer without an
--- event, the latest of these answers, and how many of its calls were refused for a cause other than memory
+-- event, and the latest of these answers
 pub record SeatState : Type 0 where
   pub number : ℕ
   pub pages : List PageState
   pub answers : ℕ
   pub latest : Option Answered
-  pub refused : ℕ
 
 -- a seat that has seen nothing yet
 abbrev pub fresh_seat : ℕ → SeatState
-fresh_seat number = record { number = number; pages = []; answers = 0; latest = None; refused = 0 }
+fresh_seat number = record { number = number; pages = []; answers = 0; latest = None }
 
 abbrev pub page_at : ℕ → List PageState → Option PageState
 page_at table [] = None
@@ -81,10 +80,6 @@ forgotten table s = record s { pages = map (forgotten_page table) s.pages }
 -- the seat with one more answer; the count starts again after 2^64 - 1
 abbrev pub with_answer : SeatState → Answered → SeatState
 with_answer s a = record s { answers = (s.answers + 1) % 2 ^ 64; latest = Some a }
-
--- the seat with one more call that was refused; the count starts again after 2^64 - 1
-abbrev pub with_refusal : SeatState → SeatState
-with_refusal s = record s { refused = (s.refused + 1) % 2 ^ 64 }
 
 -- if a seat has seen more events than the table has: how many it has seen, and how many there are
 abbrev pub ahead_of : SeatState → ℕ → ℕ → Option (ℕ × ℕ)

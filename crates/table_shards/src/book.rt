@@ -1,7 +1,7 @@
 //! What a seat keeps.
 
 ghost use Rattle.std.specs.Prelude.{◌≡◌, ◌<◌, IfOk};
-ghost use Rattle.table_shards.specs.Receipts.{ahead_of, forgotten, seen_of, with_receipt, with_refusal};
+ghost use Rattle.table_shards.specs.Receipts.{ahead_of, forgotten, seen_of, with_receipt};
 ghost use Rattle.table_shards.specs.Pages.{page_states, seat_of, ArePages, HasRoomIn};
 
 use crate::answers::Answered;
@@ -11,8 +11,7 @@ use std::alloc::Global;
 use table_types::Memory;
 
 /// A seat's number, its page for each table of which it has receipts, the number of its calls that got an answer
-/// without an event, the latest of these answers, and the number of its calls that were refused for a cause other than
-/// memory.
+/// without an event, and the latest of these answers.
 #[derive(Debug, Drop)]
 pub struct Book {
     pub alloc: Global,
@@ -20,7 +19,6 @@ pub struct Book {
     pub pages: Vec<Page>,
     pub answers: u64,
     pub latest: Option<Answered>,
-    pub refused: u64,
 }
 
 impl Book {
@@ -64,14 +62,6 @@ impl Book {
         ensures pages { ArePages (page_states self.new.pages.items) }
     {
         write_in(&mut self.pages, room, table, receipt);
-    }
-
-    /// Counts a call that is refused. The count starts again after 2^64 - 1.
-    pub fn count_refusal(&mut self)
-        ensures counted { seat_of self.new ≡ with_refusal (seat_of self.old) }
-        ensures pages { self.new.pages ≡ self.old.pages }
-    {
-        self.refused = self.refused.wrapping_add(1);
     }
 
     /// Drops the receipts of the table. What was seen of it stays. Doesn't allocate.

@@ -6,8 +6,8 @@ ghost use Rattle.table_shards.specs.declared.errors.ShardError.TheVariants as er
 use table_types::Memory;
 use thiserror::Error;
 
-/// Why a call under a table's lock fails: the first of these that applies. The table hasn't changed, and there is no
-/// receipt. The seat counts the call as refused, unless memory ran out.
+/// Why a call under a table's lock fails: the first of these that applies. Nothing has changed, and there is no
+/// receipt.
 #[derive(Clone, Copy, Debug, PartialEq, Eq, Error)]
 pub enum ShardError<E> {
     /// The cell is another table's.

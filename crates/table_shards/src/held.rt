@@ -1,8 +1,7 @@
 //! The calls that change a table, each under the table's lock and for a seat. A call that makes an event adds a receipt
 //! of it to the seat while the lock is still held. Each call takes the seat, and returns it with the result; the calls
-//! of the modules `lent` and `noted` borrow it. If a call fails, the table hasn't changed, and there is no receipt; the
-//! seat counts the call as refused, unless memory ran out. A call of `noted` may then leave the table's answer at the
-//! seat.
+//! of the modules `lent` and `noted` borrow it. If a call fails, nothing has changed, and there is no receipt; but a call
+//! of `noted` then leaves the answer at the seat, unless memory ran out.
 
 ghost use Rattle.std.specs.Prelude.{◌≡◌, ◌≤◌};
 ghost use Rattle.table_cell.specs.Histories.{Acknowledges, BeginsAnew, Closes, Copies, Learns, Opens, Purges, Tracks};
@@ -10,7 +9,6 @@ ghost use Rattle.table_cell.specs.Renumbering.{Renumbers};
 ghost use Rattle.table_cell.specs.declared.events.CellEvent.TheVariants as events;
 ghost use Rattle.table_cell.specs.declared.events.CellReply.TheVariants as replies;
 ghost use Rattle.table_shards.specs.Holding.{Holds, Looks, Settles, SlidesAlways, receipted};
-ghost use Rattle.table_shards.specs.Refusals.{needs_none, no_memory_to_ack, no_memory_to_begin_anew, no_memory_to_close, no_memory_to_copy, no_memory_to_learn, no_memory_to_open, no_memory_to_purge, no_memory_to_renumber, no_memory_to_track};
 
 pub mod lent;
 pub mod noted;
@@ -34,7 +32,7 @@ pub fn track(
     change: Change,
     now: Moment,
 ) -> (Seat, Result<Reply, ShardError<TrackError>>)
-    ensures { Holds no_memory_to_track (λ c r e. Tracks c seat.number key change now r e)
+    ensures { Holds (λ c r e. Tracks c seat.number key change now r e)
         (λ reply. receipted table locked.old seat (events.Track seat.number key change now) (replies.Track reply))
         table locked.old seat result.1 locked.new result.0 }
 {
@@ -51,7 +49,7 @@ pub fn learn(
     update: Update,
     now: Moment,
 ) -> (Seat, Result<Reply, ShardError<LearnError>>)
-    ensures { Holds no_memory_to_learn (λ c r e. Learns c session update now r e)
+    ensures { Holds (λ c r e. Learns c session update now r e)
         (λ reply. receipted table locked.old seat (events.Learn session update now) (replies.Learn reply))
         table locked.old seat result.1 locked.new result.0 }
 {
@@ -70,7 +68,7 @@ pub fn copy(
     now: Moment,
 ) -> (Seat, Result<Batch, ShardError<CopyError>>)
     requires { (1 ≤ limit) × (limit ≤ 4096) }
-    ensures { Holds no_memory_to_copy (λ c r e. Copies c session kind limit now r e)
+    ensures { Holds (λ c r e. Copies c session kind limit now r e)
         (λ batch. receipted table locked.old seat (events.Copy session kind limit now) (replies.Copy batch))
         table locked.old seat result.1 locked.new result.0 }
 {
@@ -86,7 +84,7 @@ pub fn ack(
     session: u32,
     number: u32,
 ) -> (Seat, Result<Settled, ShardError<AckError>>)
-    ensures { Holds no_memory_to_ack (λ c r e. Acknowledges c session number r e)
+    ensures { Holds (λ c r e. Acknowledges c session number r e)
         (λ settled. receipted table locked.old seat (events.Ack session number) (replies.Ack settled))
         table locked.old seat result.1 locked.new result.0 }
 {
@@ -94,7 +92,7 @@ pub fn ack(
     (seat, result)
 }
 
-/// Calls `TableCell::settle`. Makes no event, and doesn't allocate.
+/// Calls `TableCell::settle`. Makes no event, doesn't allocate, and returns the seat as it was.
 pub fn settle(
     locked: &mut Locked,
     mut seat: Seat,
@@ -102,47 +100,48 @@ pub fn settle(
     session: u32,
     batch: &Batch,
 ) -> (Seat, Result<(), ShardError<StrangeBatch>>)
-    ensures { Looks needs_none (λ c r e. Settles c session batch.now r e) table locked.old seat result.1 locked.new result.0 }
+    ensures { Looks (λ c r e. Settles c session batch.now r e) table locked.old seat result.1 locked.new result.0 }
 {
     let result = lent::settle(locked, &mut seat, table, session, batch);
     (seat, result)
 }
 
 /// Calls `TableCell::begin_anew`. If it drops an event of the round, an audit of the round then fails. Makes no event,
-/// and doesn't allocate.
+/// doesn't allocate, and returns the seat as it was.
 pub fn begin_anew(
     locked: &mut Locked,
-    mut seat: Seat,
+    seat: Seat,
     table: u64,
 ) -> (Seat, Result<Dropped, ShardError<CheckpointError>>)
-    ensures { Looks no_memory_to_begin_anew (λ c r e. BeginsAnew c r e) table locked.old seat result.1 locked.new result.0 }
+    ensures { Looks (λ c r e. BeginsAnew c r e) table locked.old seat result.1 locked.new result.0 }
 {
-    let result = lent::begin_anew(locked, &mut seat, table);
+    let result = lent::begin_anew(locked, &seat, table);
     (seat, result)
 }
 
-/// Calls `TableCell::slide`. If it drops an event of the round, an audit of the round then fails. Makes no event, and
-/// doesn't allocate.
+/// Calls `TableCell::slide`. If it drops an event of the round, an audit of the round then fails. Makes no event, doesn't
+/// allocate, and returns the seat as it was.
 pub fn slide(
     locked: &mut Locked,
-    mut seat: Seat,
+    seat: Seat,
     table: u64,
 ) -> (Seat, Result<Dropped, ShardError<Infallible>>)
-    ensures { Looks needs_none SlidesAlways table locked.old seat result.1 locked.new result.0 }
+    ensures { Looks SlidesAlways table locked.old seat result.1 locked.new result.0 }
 {
-    let result = lent::slide(locked, &mut seat, table);
+    let result = lent::slide(locked, &seat, table);
     (seat, result)
 }
 
-/// Calls `TableCell::renumber`, which the table counts: an audit of the round then fails. Makes no event.
+/// Calls `TableCell::renumber`, which the table counts: an audit of the round then fails. Makes no event, and returns the
+/// seat as it was.
 pub fn renumber(
     locked: &mut Locked,
-    mut seat: Seat,
+    seat: Seat,
     table: u64,
 ) -> (Seat, Result<(), ShardError<RenumberError>>)
-    ensures { Looks no_memory_to_renumber (λ c r e. Renumbers c r e) table locked.old seat result.1 locked.new result.0 }
+    ensures { Looks (λ c r e. Renumbers c r e) table locked.old seat result.1 locked.new result.0 }
 {
-    let result = lent::renumber(locked, &mut seat, table);
+    let result = lent::renumber(locked, &seat, table);
     (seat, result)
 }
 
@@ -154,7 +153,7 @@ pub fn open_session(
     session: u32,
     version: Version,
 ) -> (Seat, Result<(), ShardError<OpenError>>)
-    ensures { Holds no_memory_to_open (λ c r e. Opens c session version r e) (λ done. receipted table locked.old seat (events.Open session version) replies.Open)
+    ensures { Holds (λ c r e. Opens c session version r e) (λ done. receipted table locked.old seat (events.Open session version) replies.Open)
         table locked.old seat result.1 locked.new result.0 }
 {
     let result = lent::open_session(locked, &mut seat, table, session, version);
@@ -168,7 +167,7 @@ pub fn close_session(
     table: u64,
     session: u32,
 ) -> (Seat, Result<(), ShardError<CloseError>>)
-    ensures { Holds no_memory_to_close (λ c r e. Closes c session r e) (λ done. receipted table locked.old seat (events.Close session) replies.Close)
+    ensures { Holds (λ c r e. Closes c session r e) (λ done. receipted table locked.old seat (events.Close session) replies.Close)
         table locked.old seat result.1 locked.new result.0 }
 {
     let result = lent::close_session(locked, &mut seat, table, session);
@@ -182,7 +181,7 @@ pub fn purge(
     table: u64,
     now: Moment,
 ) -> (Seat, Result<usize, ShardError<PurgeError>>)
-    ensures { Holds no_memory_to_purge (λ c r e. Purges c now r e) (λ count. receipted table locked.old seat (events.Purge now) (replies.Purge count))
+    ensures { Holds (λ c r e. Purges c now r e) (λ count. receipted table locked.old seat (events.Purge now) (replies.Purge count))
         table locked.old seat result.1 locked.new result.0 }
 {
     let result = lent::purge(locked, &mut seat, table, now);

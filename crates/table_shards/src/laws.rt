@@ -8,7 +8,7 @@ ghost use Rattle.table_cell.specs.declared.events.CellReply.{CellReply};
 ghost use Rattle.table_shards.specs.declared.answers.Answered.{Answered};
 ghost use Rattle.table_shards.specs.declared.errors.AuditError.{AuditError};
 ghost use Rattle.table_shards.specs.declared.errors.AuditError.TheVariants as errors;
-ghost use Rattle.table_shards.specs.Receipts.{ReceiptState, SeatState, all_receipts, forgotten, receipts_of, seen_of, with_answer, with_receipt, with_refusal};
+ghost use Rattle.table_shards.specs.Receipts.{ReceiptState, SeatState, all_receipts, forgotten, receipts_of, seen_of, with_answer, with_receipt};
 ghost use Rattle.table_shards.specs.Roll.{AreSeats};
 ghost use Rattle.table_shards.specs.Agreement.{Agree, IsEntry, OneOf, id_of};
 ghost use Rattle.table_shards.specs.Audits.{Audits, UnlockedState};
@@ -29,15 +29,6 @@ pub fn an_answer_changes_the_seat()
     ensures number { (s : SeatState) (answered : Answered) → (with_answer s answered).number ≡ s.number }
     ensures receipts { (s : SeatState) (answered : Answered) (table : ℕ) → (receipts_of table (with_answer s answered) ≡ receipts_of table s)
         × (seen_of table (with_answer s answered) ≡ seen_of table s) }
-{}
-
-/// A refusal that is counted changes the seat, but not its number, its receipts or what it has seen. So a seat that stays as it was has
-/// counted none.
-pub fn a_refusal_changes_the_seat()
-    ensures changes { (s : SeatState) → with_refusal s ≡ s → ⊥ }
-    ensures number { (s : SeatState) → (with_refusal s).number ≡ s.number }
-    ensures receipts { (s : SeatState) (table : ℕ) → (receipts_of table (with_refusal s) ≡ receipts_of table s) × (seen_of table (with_refusal s) ≡ seen_of table s) }
-    ensures answers { (s : SeatState) (answered : Answered) → with_refusal s ≡ with_answer s answered → ⊥ }
 {}
 
 /// The receipt that a call of `held` adds is the new event of the table at its place, and that place is the number of events

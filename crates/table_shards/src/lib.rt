@@ -14,7 +14,6 @@ mod next_round;
 mod pages;
 mod receipt;
 mod receipts;
-mod refusal;
 mod roll;
 mod seat;
 mod shards;
@@ -24,9 +23,9 @@ pub use answers::{Answer, Answered};
 pub use comparing::compare;
 pub use errors::{AuditError, RoundError, ShardError};
 pub use laws::{
-    a_receipt_is_of_the_new_event, a_refusal_changes_the_seat, an_answer_changes_the_seat,
-    an_audit_finds_what_is_missed, as_many_receipts_as_events, dropped_events_are_missed,
-    forgotten_receipts_are_missed, one_receipt_more, receipts_are_the_events, renewals_are_counted,
+    a_receipt_is_of_the_new_event, an_answer_changes_the_seat, an_audit_finds_what_is_missed,
+    as_many_receipts_as_events, dropped_events_are_missed, forgotten_receipts_are_missed,
+    one_receipt_more, receipts_are_the_events, renewals_are_counted,
 };
 pub use locked::Locked;
 pub use receipt::Receipt;

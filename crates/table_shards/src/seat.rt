@@ -13,8 +13,8 @@ use std::alloc::Global;
 use std::marker::Model;
 
 /// A thread's seat at the tables: its number, its receipts of the events that it made, the place up to which it has seen
-/// the events of each table, the latest answer without an event, and how many of its calls were refused. The places of
-/// its receipts of one table ascend, up to what it has seen.
+/// the events of each table, and the latest answer without an event. The places of its receipts of one table ascend, up
+/// to what it has seen.
 #[derive(Debug, Drop)]
 pub struct Seat {
     pub(crate) book: Book,
@@ -35,7 +35,7 @@ impl Seat {
     /// Makes a seat with these pages. Doesn't allocate.
     pub(crate) fn with_pages(alloc: Global, number: u32, pages: Vec<Page>) -> Seat
         requires { ArePages (page_states pages.items) }
-        ensures { result ≡ record { number = number; pages = page_states pages.items; answers = 0; latest = None; refused = 0 } }
+        ensures { result ≡ record { number = number; pages = page_states pages.items; answers = 0; latest = None } }
     {
         Seat {
             book: Book {
@@ -44,7 +44,6 @@ impl Seat {
                 pages,
                 answers: 0,
                 latest: None,
-                refused: 0,
             },
         }
     }
@@ -85,14 +84,6 @@ impl Seat {
         self.book.latest
     }
 
-    /// Returns how many of the seat's calls were refused for a cause other than memory. The count starts again after
-    /// 2^64 - 1.
-    pub fn refused(&self) -> u64
-        ensures { result ≡ self.now.refused }
-    {
-        self.book.refused
-    }
-
     /// Drops the seat's receipts of the table. Its number, what it has seen, and its receipts of other tables stay. If one of
     /// the receipts is of an event of the round, an audit of the round then fails. Doesn't allocate.
     #[tactic(auto, using(crate::proofs::ForgetLaws::no_receipts, crate::proofs::ForgetLaws::same_positions, crate::proofs::ForgetLaws::other_receipts))]
@@ -105,7 +96,7 @@ impl Seat {
         self.book.forget(table);
     }
 
-    /// Adds the answer, if there is one, to a call of the session when the table had `events` events. Doesn't allocate.
+    /// Adds the answer, if there is one, to a call of the session when the cell had `events` events. Doesn't allocate.
     pub(crate) fn note(&mut self, table: u64, session: u32, events: u64, answer: Option<Answer>)
         ensures { self.new ≡ noted table session events answer self.old }
     {

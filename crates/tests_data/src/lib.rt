@@ -39,4 +39,6 @@ mod slots;
 #[cfg(test)]
 mod tables;
 #[cfg(test)]
+mod tolerant_readers;
+#[cfg(test)]
 mod words;

@@ -4,8 +4,8 @@ use crate::pipes::Pipe;
 use crate::sides::rows;
 use crate::staying::{Stayer, are_equal};
 use crate::tables::{Role, Tables};
-use peers_devices::{Counting, Writes};
-use session_core::State;
+use peers_engine::Outcome;
+use session_core::{Event, State};
 use std::alloc::Global;
 use std::sync::Wait;
 use table_types::Moment;
@@ -119,7 +119,13 @@ impl Member {
     }
 
     /// Requests a resync if the node lacks rows, and notes that it has them once one is over.
-    fn ask(&mut self, alloc: Global, output: &mut Pipe, now: Moment) -> Option<()> {
+    fn ask<H: Wait>(
+        &mut self,
+        rt: &H,
+        alloc: Global,
+        output: &mut Pipe,
+        now: Moment,
+    ) -> Option<()> {
         if !self.lacks {
             return Some(());
         }
@@ -127,11 +133,8 @@ impl Member {
         if controls.finished > 0 || controls.partial > 0 {
             self.lacks = false;
         } else if !self.asked {
-            let mut writer = Counting::new(Vec::new(alloc));
-            let mut writes = Writes::none();
-            let asked = self.stayer.worker.request(&mut writer, &mut writes, now);
-            self.asked = asked.ok()?;
-            output.bytes.append(&mut writer.into_inner()).ok()?;
+            let outcome = self.stayer.take(rt, alloc, output, Event::Ask, now)?;
+            self.asked = outcome == Outcome::Worked;
         }
         Some(())
     }
@@ -150,7 +153,7 @@ impl Member {
             return Some(());
         }
         self.stayer.go_on(rt, alloc, input, output, now, 8)?;
-        self.ask(alloc, output, now)?;
+        self.ask(rt, alloc, output, now)?;
         self.stayer.tidy(rt)
     }
 }

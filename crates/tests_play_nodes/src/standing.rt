@@ -38,10 +38,10 @@ pub fn first_other_tick(alloc: Global, ticks: &[(u32, Beat)]) -> Option<usize> {
         return Some(0);
     };
     for (place, (after, beat)) in ticks.iter().enumerate() {
-        let Ok(ticked) = session.tick(Moment::least().later_by(*after)) else {
+        let Ok(actions) = session.on(Event::Tick, Moment::least().later_by(*after)) else {
             return Some(place);
         };
-        if !ticked.left.is_empty() || !is_asked(ticked.actions.as_slice(), beat) {
+        if !is_asked(actions.as_slice(), beat) {
             return Some(place);
         }
     }

@@ -6,7 +6,7 @@ use crate::tables::{Role, Tables};
 use crate::waiting::Waiting;
 use peers_devices::{Counting, Writes};
 use peers_engine::{AlwaysOpen, Outcome, Worker};
-use session_core::{Session, State};
+use session_core::{Event, Session, State};
 use std::alloc::Global;
 use std::sync::Wait;
 use table_cell::TableCell;
@@ -116,6 +116,30 @@ impl Stayer {
         outcome.ok()
     }
 
+    /// Gives the session an event of this node's own.
+    pub(crate) fn take<H: Wait>(
+        &mut self,
+        rt: &H,
+        alloc: Global,
+        output: &mut Pipe,
+        event: Event,
+        now: Moment,
+    ) -> Option<Outcome> {
+        let mut writer = Counting::new(Vec::new(alloc));
+        let mut writes = Writes::none();
+        let outcome = self.worker.take(
+            rt,
+            alloc,
+            &mut writer,
+            &mut writes,
+            &self.shards,
+            event,
+            now,
+        );
+        output.bytes.append(&mut writer.into_inner()).ok()?;
+        outcome.ok()
+    }
+
     /// Takes a tick, and then turns until there is nothing to do, at most `most` of them.
     pub(crate) fn go_on<H: Wait>(
         &mut self,
@@ -126,13 +150,7 @@ impl Stayer {
         now: Moment,
         most: u32,
     ) -> Option<()> {
-        let mut writer = Counting::new(Vec::new(alloc));
-        let mut writes = Writes::none();
-        let ticked = self
-            .worker
-            .tick(rt, alloc, &mut writer, &mut writes, &self.shards, now)
-            .ok()?;
-        output.bytes.append(&mut writer.into_inner()).ok()?;
+        let ticked = self.take(rt, alloc, output, Event::Tick, now)?;
         if ticked == Outcome::Closed {
             return None;
         }
@@ -167,7 +185,7 @@ impl Stayer {
     pub(crate) fn tidy<H: Wait>(&mut self, rt: &H) -> Option<()> {
         let mut locked = self.shards.cell(1)?.lock(rt);
         if history(locked.cell()) >= 1_024 {
-            lent::slide(&mut locked, &mut self.tracker, 1).ok()?;
+            lent::slide(&mut locked, &self.tracker, 1).ok()?;
         }
         self.tracker.forget(1);
         self.worker.seat.forget(1);

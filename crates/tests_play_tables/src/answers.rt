@@ -3,7 +3,7 @@
 use crate::cells::received;
 use std::alloc::Global;
 use std::sync::Wait;
-use table_cell::{AckError, CopyError, LearnError, TableCell};
+use table_cell::{AckError, CopyError, LearnError, OpenError, TableCell};
 use table_shards::held::{lent, noted};
 use table_shards::{Answer, Locked, Seat, ShardError, Shards};
 use table_types::{Change, CopyKind, DataType, Key, Moment, Update, Version};
@@ -29,10 +29,20 @@ fn opens(locked: &mut Locked, seat: &mut Seat) -> bool {
 fn has_nothing(locked: &mut Locked, seat: &mut Seat) -> bool {
     let kind = CopyKind::Resync;
     let copied = noted::copy(locked, seat, 1, 1, kind, 512, Moment::least());
-    let refused = copied.err() == Some(ShardError::Cell(CopyError::Nothing));
+    let nothing = ShardError::Cell(CopyError::Nothing);
     match kept(seat, 1) {
-        Some(Answer::Nothing { kind, limit, .. }) => {
-            refused && kind == CopyKind::Resync && limit == 512
+        Some(
+            Answer::Uncopied {
+                kind,
+                limit,
+                error,
+                ..
+            },
+        ) => {
+            copied.err() == Some(nothing)
+                && error == nothing
+                && kind == CopyKind::Resync
+                && limit == 512
         }
         _ => false,
     }
@@ -41,7 +51,9 @@ fn has_nothing(locked: &mut Locked, seat: &mut Seat) -> bool {
 /// Returns whether the seat keeps that number 5 was ahead when `t1` had one event.
 fn keeps_ahead(seat: &Seat) -> bool {
     match kept(seat, 1) {
-        Some(Answer::Ahead { number }) => number == 5,
+        Some(Answer::Untaken { number, error }) => {
+            number == 5 && error == ShardError::Cell(AckError::AckAhead)
+        }
         _ => false,
     }
 }
@@ -69,9 +81,11 @@ fn ninth(alloc: Global) -> Option<Update> {
 /// Learns the update in `t1`, which has two events. Returns whether the table is full, and the seat keeps that.
 fn is_full(locked: &mut Locked, seat: &mut Seat, ninth: Update) -> bool {
     let learned = noted::learn(locked, seat, 1, 1, ninth, Moment::least());
-    let refused = learned == Err(ShardError::Cell(LearnError::TableFull));
+    let full = ShardError::Cell(LearnError::TableFull);
     match kept(seat, 2) {
-        Some(Answer::Full { number, .. }) => refused && number == 9,
+        Some(Answer::Unlearned { number, error, .. }) => {
+            learned == Err(full) && error == full && number == 9
+        }
         _ => false,
     }
 }
@@ -87,13 +101,48 @@ fn is_latest(locked: &mut Locked, seat: &mut Seat) -> Option<bool> {
     }
 }
 
-/// Makes the calls one after another. Returns whether each leaves the seat as it should, and three were refused.
+/// Opens session 1 in `t1`, where it is open. Returns whether that is refused, and the seat keeps the answer that it had.
+fn leaves_the_seat(locked: &mut Locked, seat: &mut Seat) -> bool {
+    let opened = lent::open_session(locked, seat, 1, 1, Version::V21);
+    let refused = opened == Err(ShardError::Cell(OpenError::AlreadyOpen));
+    match kept(seat, 3) {
+        Some(Answer::Latest) => refused,
+        _ => false,
+    }
+}
+
+/// Opens session 1 in `t1`, where it is open. Returns whether that is refused, and the seat keeps that.
+fn is_open(locked: &mut Locked, seat: &mut Seat) -> bool {
+    let opened = noted::open_session(locked, seat, 1, 1, Version::V20);
+    let already = ShardError::Cell(OpenError::AlreadyOpen);
+    match kept(seat, 3) {
+        Some(Answer::Unopened { version, error }) => {
+            opened == Err(already) && error == already && version == Version::V20
+        }
+        _ => false,
+    }
+}
+
+/// Closes session 1 in table 2 under the lock of `t1`. Returns whether that is refused, and the seat keeps that.
+fn is_elsewhere(locked: &mut Locked, seat: &mut Seat) -> Option<bool> {
+    let closed = noted::close_session(locked, seat, 2, 1);
+    let latest = seat.latest()?;
+    match latest.answer {
+        Answer::Unclosed { error } => Some(
+            closed == Err(ShardError::NoTable) && error == ShardError::NoTable && latest.table == 2,
+        ),
+        _ => Some(false),
+    }
+}
+
+/// Makes the calls one after another. Returns whether each leaves the seat as it should.
 fn are_kept(alloc: Global, locked: &mut Locked, seat: &mut Seat) -> Option<bool> {
     let opened = opens(locked, seat) && has_nothing(locked, seat);
     let refused = is_ahead(locked, seat) && tracks(locked, seat);
     let full = is_full(locked, seat, ninth(alloc)?);
     let latest = is_latest(locked, seat)?;
-    let left = seat.receipts(1).len() == 3 && seat.refused() == 3;
+    let refused = refused && leaves_the_seat(locked, seat) && is_open(locked, seat);
+    let left = is_elsewhere(locked, seat)? && seat.receipts(1).len() == 3;
     Some(opened && refused && full && latest && left)
 }
 
@@ -102,7 +151,7 @@ fn narrow(alloc: Global) -> Option<TableCell> {
     TableCell::new(alloc, definition(alloc, &T1)?, 1, true, 1).ok()
 }
 
-/// Returns whether a seat keeps the latest answer that made no event, and counts the calls that were refused.
+/// Returns whether a seat keeps the latest answer that made no event.
 pub fn keeps_answers<R: Wait>(rt: &R, alloc: Global) -> Option<bool> {
     let tables = vec![in alloc; narrow(alloc)?].ok()?;
     let (shards, mut seats) = Shards::new(alloc, tables, 1).ok()?;

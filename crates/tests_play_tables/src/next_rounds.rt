@@ -81,17 +81,17 @@ pub fn waits_for_a_batch<R: Wait>(rt: &R, alloc: Global) -> Option<bool> {
 }
 
 /// Lets `t1` slide. Returns how many events it dropped.
-fn slid<R: Wait>(rt: &R, round: &mut Round) -> Option<u64> {
+fn slid<R: Wait>(rt: &R, round: &Round) -> Option<u64> {
     let lock = round.shards.cell(1)?;
-    let seat = round.seat.as_mut()?;
+    let seat = round.seat.as_ref()?;
     let dropped = lent::slide(&mut lock.lock(rt), seat, 1).ok()?;
     Some(dropped.count())
 }
 
 /// Returns whether an audit notices that events of the round were dropped.
 pub fn is_noticed<R: Wait>(rt: &R, alloc: Global) -> Option<bool> {
-    let mut round = tracked(rt, alloc)?;
-    let dropped = slid(rt, &mut round)?;
+    let round = tracked(rt, alloc)?;
+    let dropped = slid(rt, &round)?;
     let fault = AuditError::Mismatch { table: 1, seat: 0 };
     Some(dropped == 3 && round.audited(alloc) == Some(Err(fault)))
 }

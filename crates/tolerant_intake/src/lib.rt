@@ -10,8 +10,6 @@ mod passed_over;
 mod plan;
 mod planning;
 mod reader;
-#[cfg(test)]
-mod scenarios;
 mod tolerance;
 
 pub use laws::{

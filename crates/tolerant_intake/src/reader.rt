@@ -8,7 +8,6 @@ ghost use Rattle.tolerant_intake.specs.Reading.{Reads, begun, loose_of, passed_b
 use crate::loose_table::LooseTable;
 use crate::passed_over::PassedOver;
 use crate::tolerance::Tolerance;
-#[cfg(test)]
 use known_state::State;
 use learner::{Fault, Intake, Taken};
 use peers_msg::{Message, Received};
@@ -72,8 +71,7 @@ impl Reader {
     }
 
     /// Returns the state after the messages read.
-    #[cfg(test)]
-    pub(crate) fn state(&self) -> &State
+    pub fn state(&self) -> &State
         ensures { result.now ≡ self.now.intake.state }
     {
         self.intake.state()

@@ -26,17 +26,18 @@ pub struct Served {
     pub(crate) played: Played,
 }
 
-/// What the thread of a session promises: that this worker takes the turns of its session, at most as many.
+/// What the thread of a session promises: that this worker takes the turns of its session with these tables, at most as many.
 #[derive(Drop)]
 pub struct TakesTurns {
     pub(crate) worker: Snapshot<Worker>,
+    pub(crate) shards: Snapshot<Shards>,
     pub(crate) turns: u32,
 }
 
 impl Promise<Served> for TakesTurns {
     ghost use Rattle.node_commands.specs.Serving.{HasServed};
 
-    ghost kept_by = { λ promise served. HasServed promise.turns promise.worker.value served };
+    ghost kept_by = { λ promise served. HasServed promise.shards.value promise.turns promise.worker.value served };
 }
 
 /// The work of a session's thread: its worker, the most turns that it takes, and its connection.
@@ -50,7 +51,7 @@ pub(crate) struct Task {
 
 /// Takes the turns of a session, and closes its connection.
 fn serve_one<H: Wait>(rt: &H, shards: &Shards, task: Task) -> Served
-    ensures { HasServed task.turns task.worker result }
+    ensures { HasServed shards.now task.turns task.worker result }
 {
     let Task {
         alloc,
@@ -82,11 +83,12 @@ fn start<'s, E: 's, H: Wait + Sync>(
     shards: &'s Shards,
     task: Task,
 ) -> Result<PromisedHandle<Served, TakesTurns>, Ending>
-    ensures started { IfOk result (λ thread. (thread.promise.worker.value ≡ task.worker) × (thread.promise.turns ≡ task.turns)) }
+    ensures started { IfOk result (λ thread. (thread.promise.worker.value ≡ task.worker) × (thread.promise.shards.value ≡ shards.now) × (thread.promise.turns ≡ task.turns)) }
     ensures early { IfErr result (λ ending. (ending ≡ endings.Memory) ⊎ (ending ≡ endings.Device)) }
 {
     let promise = TakesTurns {
         worker: Snapshot::of(&task.worker),
+        shards: Snapshot::of(shards),
         turns: task.turns,
     };
     match scope.spawn_with(promise, move || serve_one(rt, shards, task)) {
@@ -105,7 +107,7 @@ fn start_all<'s, E: 's, H: Wait + Sync>(
     turns: u32,
     workers: Vec<Worker>,
 ) -> Result<Vec<PromisedHandle<Served, TakesTurns>>, Ending>
-    ensures started { IfOk result (λ threads. AreStarted (λ thread. thread.promise) turns workers.items threads.items) }
+    ensures started { IfOk result (λ threads. AreStarted (λ thread. thread.promise) shards.now turns workers.items threads.items) }
     ensures early { IfErr result (λ ending. (ending ≡ endings.Memory) ⊎ (ending ≡ endings.Device)) }
 {
     let mut threads = Vec::with_capacity(alloc, workers.len())?;
@@ -151,7 +153,7 @@ fn serve_in<'s, E: 's, H: Threads + Wait + Sync>(
     turns: u32,
     workers: Vec<Worker>,
 ) -> Result<Vec<Served>, Ending>
-    ensures served { IfOk result (λ all. AllServed turns workers.items all.items) }
+    ensures served { IfOk result (λ all. AllServed shards.now turns workers.items all.items) }
     ensures early { IfErr result (λ ending. (ending ≡ endings.Memory) ⊎ (ending ≡ endings.Device)) }
 {
     let threads = start_all(rt, alloc, scope, shards, listener, turns, workers)?;
@@ -168,7 +170,7 @@ pub(crate) fn serve_all<H: Threads + Wait + Sync>(
     turns: u32,
     workers: Vec<Worker>,
 ) -> Result<Vec<Served>, Ending>
-    ensures served { IfOk result (λ all. AllServed turns workers.items all.items) }
+    ensures served { IfOk result (λ all. AllServed shards.now turns workers.items all.items) }
     ensures early { IfErr result (λ ending. (ending ≡ endings.Memory) ⊎ (ending ≡ endings.Device)) }
 {
     thread::scope(thread::scope_env(), rt, move |scope| {

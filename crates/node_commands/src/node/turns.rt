@@ -112,7 +112,7 @@ fn take_turn<H: Wait, R: Read + Faults, W: Write + Faults>(
     from: &mut R,
     to: &mut W,
 ) -> Result<Outcome, EngineError>
-    ensures { (received sent : List ℕ) × Takes (turn_at now worker.old) result received sent (turn_at now worker.new)
+    ensures { (received sent : List ℕ) × Takes shards.now (turn_at now worker.old) result received sent (turn_at now worker.new)
         × Consumes (R.remaining from.old) (R.remaining from.new) received
         × Appends (W.contents to.old) (W.contents to.new) sent }
 {
@@ -132,7 +132,7 @@ pub(crate) fn play<H: Wait, R: Read + Faults, W: Write + Faults>(
     to: &mut W,
 ) -> Played
     requires { turns.pace.taken + turns.most < 2 ^ 32 }
-    ensures plays { (received sent : List ℕ) × Plays turns.pace 0 worker.old turns.most result.turns result.ending received sent worker.new
+    ensures plays { (received sent : List ℕ) × Plays shards.now turns.pace 0 worker.old turns.most result.turns result.ending received sent worker.new
         × Consumes (R.remaining from.old) (R.remaining from.new) received
         × Appends (W.contents to.old) (W.contents to.new) sent }
     ensures within { result.turns ≤ turns.most }

@@ -1,4 +1,4 @@
-//! The calls of `held` for a seat that is lent. Only they count refused calls at a seat.
+//! The calls of `held` for a seat that is lent.
 
 ghost use Rattle.std.specs.Prelude.{◌≡◌, ◌≤◌, ◌<◌, IfErr, IfOk};
 ghost use Rattle.table_cell.specs.Histories.{Acknowledges, BeginsAnew, Closes, Copies, Learns, Opens, Purges, Tracks, events_of};
@@ -8,14 +8,12 @@ ghost use Rattle.table_cell.specs.declared.events.CellReply.TheVariants as repli
 ghost use Rattle.table_shards.specs.Receipts.{seen_of, with_receipt};
 ghost use Rattle.table_shards.specs.Pages.{page_states, seat_of, ArePages, HasRoomIn};
 ghost use Rattle.table_shards.specs.Holding.{Allows, Holds, Leaves, Looks, MayCall, Refuses, Settles, SlidesAlways, receipted};
-ghost use Rattle.table_shards.specs.Refusals.{needs_none, no_memory_to_ack, no_memory_to_begin_anew, no_memory_to_close, no_memory_to_copy, no_memory_to_learn, no_memory_to_open, no_memory_to_purge, no_memory_to_renumber, no_memory_to_track};
 
 use crate::book::Book;
 use crate::errors::ShardError;
 use crate::locked::Locked;
 use crate::pages::Room;
 use crate::receipt::Receipt;
-use crate::refusal::pass_on;
 use crate::seat::Seat;
 use std::convert::Infallible;
 use table_cell::{
@@ -25,28 +23,24 @@ use table_cell::{
 use table_types::{Batch, Change, CopyKind, Key, Moment, Settled, Update, Version};
 
 /// Returns why the call may not be made: the cell is another table's, or the seat has seen more events than the cell
-/// has. The seat counts that.
-fn allow<E>(locked: &Locked, book: &mut Book, table: u64) -> Result<(), ShardError<E>>
-    ensures allowed { Allows table locked.now (seat_of book.old) result (seat_of book.new) }
-    ensures pages { book.new.pages ≡ book.old.pages }
+/// has.
+fn allow<E>(locked: &Locked, book: &Book, table: u64) -> Result<(), ShardError<E>>
+    ensures { Allows table locked.now (seat_of book.now) result }
 {
     if locked.cell.definition().id() != table {
-        book.count_refusal();
         return Err(ShardError::NoTable);
     }
     match book.ahead(table, locked.cell.events()) {
-        Some((seen, found)) => {
-            book.count_refusal();
-            Err(ShardError::SeatAhead { seen, found })
-        }
+        Some((seen, found)) => Err(ShardError::SeatAhead { seen, found }),
         None => Ok(()),
     }
 }
 
-/// Makes room for the receipt of a call, if the call may be made. If it may not, the seat counts that.
+/// Makes room for the receipt of a call, if the call may be made. The seat stays as it was.
 fn begin<E>(locked: &Locked, book: &mut Book, table: u64) -> Result<Room, ShardError<E>>
-    ensures begun { IfOk result (λ room. MayCall table locked.now (seat_of book.old) × HasRoomIn table book.new.pages room × (seat_of book.new ≡ seat_of book.old)) }
-    ensures refused { IfErr result (λ error. Refuses table locked.now (seat_of book.old) error (seat_of book.new)) }
+    ensures begun { IfOk result (λ room. MayCall table locked.now (seat_of book.old) × HasRoomIn table book.new.pages room) }
+    ensures refused { IfErr result (Refuses table locked.now (seat_of book.old)) }
+    ensures stays { seat_of book.new ≡ seat_of book.old }
 {
     allow(locked, book, table)?;
     Ok(book.make_room(table)?)
@@ -72,13 +66,13 @@ pub fn track(
     change: Change,
     now: Moment,
 ) -> Result<(), ShardError<TrackError>>
-    ensures { Leaves no_memory_to_track (λ c r e. Tracks c seat.old.number key change now r e) (events.Track seat.old.number key change now) replies.Track
+    ensures { Leaves (λ c r e. Tracks c seat.old.number key change now r e) (events.Track seat.old.number key change now) replies.Track
         table locked.old seat.old result locked.new seat.new }
 {
     let number = seat.book.number;
     let room = begin(locked, &mut seat.book, table)?;
     let tracked = locked.cell.track_shared(number, key, change, now);
-    let entry = pass_on(&mut seat.book, tracked)?;
+    let entry = tracked.map_err(ShardError::Cell)?;
     finish(locked, &mut seat.book, room, table, entry);
     Ok(())
 }
@@ -92,14 +86,14 @@ pub fn track_with_reply(
     change: Change,
     now: Moment,
 ) -> Result<Reply, ShardError<TrackError>>
-    ensures { Holds no_memory_to_track (λ c r e. Tracks c seat.old.number key change now r e)
+    ensures { Holds (λ c r e. Tracks c seat.old.number key change now r e)
         (λ reply. receipted table locked.old seat.old (events.Track seat.old.number key change now) (replies.Track reply))
         table locked.old seat.old result locked.new seat.new }
 {
     let number = seat.book.number;
     let room = begin(locked, &mut seat.book, table)?;
     let tracked = locked.cell.track_with_reply(number, key, change, now);
-    let (reply, entry) = pass_on(&mut seat.book, tracked)?;
+    let (reply, entry) = tracked.map_err(ShardError::Cell)?;
     finish(locked, &mut seat.book, room, table, entry);
     Ok(reply)
 }
@@ -113,12 +107,12 @@ pub fn learn(
     update: Update,
     now: Moment,
 ) -> Result<(), ShardError<LearnError>>
-    ensures { Leaves no_memory_to_learn (λ c r e. Learns c session update now r e) (events.Learn session update now) replies.Learn
+    ensures { Leaves (λ c r e. Learns c session update now r e) (events.Learn session update now) replies.Learn
         table locked.old seat.old result locked.new seat.new }
 {
     let room = begin(locked, &mut seat.book, table)?;
     let learned = locked.cell.learn_shared(session, update, now);
-    let entry = pass_on(&mut seat.book, learned)?;
+    let entry = learned.map_err(ShardError::Cell)?;
     finish(locked, &mut seat.book, room, table, entry);
     Ok(())
 }
@@ -132,13 +126,13 @@ pub fn learn_with_reply(
     update: Update,
     now: Moment,
 ) -> Result<Reply, ShardError<LearnError>>
-    ensures { Holds no_memory_to_learn (λ c r e. Learns c session update now r e)
+    ensures { Holds (λ c r e. Learns c session update now r e)
         (λ reply. receipted table locked.old seat.old (events.Learn session update now) (replies.Learn reply))
         table locked.old seat.old result locked.new seat.new }
 {
     let room = begin(locked, &mut seat.book, table)?;
     let answer = locked.cell.learn_with_reply(session, update, now);
-    let (learned, entry) = pass_on(&mut seat.book, answer)?;
+    let (learned, entry) = answer.map_err(ShardError::Cell)?;
     finish(locked, &mut seat.book, room, table, entry);
     Ok(learned)
 }
@@ -154,13 +148,13 @@ pub fn copy(
     now: Moment,
 ) -> Result<Batch, ShardError<CopyError>>
     requires { (1 ≤ limit) × (limit ≤ 4096) }
-    ensures { Holds no_memory_to_copy (λ c r e. Copies c session kind limit now r e)
+    ensures { Holds (λ c r e. Copies c session kind limit now r e)
         (λ batch. receipted table locked.old seat.old (events.Copy session kind limit now) (replies.Copy batch))
         table locked.old seat.old result locked.new seat.new }
 {
     let room = begin(locked, &mut seat.book, table)?;
     let copied = locked.cell.copy_with_reply(session, kind, limit, now);
-    let (batch, entry) = pass_on(&mut seat.book, copied)?;
+    let (batch, entry) = copied.map_err(ShardError::Cell)?;
     finish(locked, &mut seat.book, room, table, entry);
     Ok(batch)
 }
@@ -173,18 +167,18 @@ pub fn ack(
     session: u32,
     number: u32,
 ) -> Result<Settled, ShardError<AckError>>
-    ensures { Holds no_memory_to_ack (λ c r e. Acknowledges c session number r e)
+    ensures { Holds (λ c r e. Acknowledges c session number r e)
         (λ settled. receipted table locked.old seat.old (events.Ack session number) (replies.Ack settled))
         table locked.old seat.old result locked.new seat.new }
 {
     let room = begin(locked, &mut seat.book, table)?;
     let taken = locked.cell.ack_with_reply(session, number);
-    let (settled, entry) = pass_on(&mut seat.book, taken)?;
+    let (settled, entry) = taken.map_err(ShardError::Cell)?;
     finish(locked, &mut seat.book, room, table, entry);
     Ok(settled)
 }
 
-/// Calls `TableCell::settle`. Makes no event, and doesn't allocate.
+/// Calls `TableCell::settle`. Makes no event, doesn't allocate, and leaves the seat as it was.
 pub fn settle(
     locked: &mut Locked,
     seat: &mut Seat,
@@ -192,46 +186,46 @@ pub fn settle(
     session: u32,
     batch: &Batch,
 ) -> Result<(), ShardError<StrangeBatch>>
-    ensures { Looks needs_none (λ c r e. Settles c session batch.now r e) table locked.old seat.old result locked.new seat.new }
+    ensures { Looks (λ c r e. Settles c session batch.now r e) table locked.old seat.old result locked.new seat.new }
 {
-    allow(locked, &mut seat.book, table)?;
-    pass_on(&mut seat.book, locked.cell.settle(session, batch))
+    allow(locked, &seat.book, table)?;
+    locked.cell.settle(session, batch).map_err(ShardError::Cell)
 }
 
-/// Calls `TableCell::begin_anew`. Makes no event, and doesn't allocate.
+/// Calls `TableCell::begin_anew`. Makes no event, doesn't allocate, and leaves the seat as it was.
 pub fn begin_anew(
     locked: &mut Locked,
-    seat: &mut Seat,
+    seat: &Seat,
     table: u64,
 ) -> Result<Dropped, ShardError<CheckpointError>>
-    ensures { Looks no_memory_to_begin_anew (λ c r e. BeginsAnew c r e) table locked.old seat.old result locked.new seat.new }
+    ensures { Looks (λ c r e. BeginsAnew c r e) table locked.old seat.now result locked.new seat.now }
 {
-    allow(locked, &mut seat.book, table)?;
-    pass_on(&mut seat.book, locked.cell.begin_anew())
+    allow(locked, &seat.book, table)?;
+    locked.cell.begin_anew().map_err(ShardError::Cell)
 }
 
-/// Calls `TableCell::slide`. Makes no event, and doesn't allocate.
+/// Calls `TableCell::slide`. Makes no event, doesn't allocate, and leaves the seat as it was.
 pub fn slide(
     locked: &mut Locked,
-    seat: &mut Seat,
+    seat: &Seat,
     table: u64,
 ) -> Result<Dropped, ShardError<Infallible>>
-    ensures { Looks needs_none SlidesAlways table locked.old seat.old result locked.new seat.new }
+    ensures { Looks SlidesAlways table locked.old seat.now result locked.new seat.now }
 {
-    allow(locked, &mut seat.book, table)?;
+    allow(locked, &seat.book, table)?;
     Ok(locked.cell.slide())
 }
 
-/// Calls `TableCell::renumber`. Makes no event, and needs no memory but the cell's.
+/// Calls `TableCell::renumber`. Makes no event, needs no memory but the cell's, and leaves the seat as it was.
 pub fn renumber(
     locked: &mut Locked,
-    seat: &mut Seat,
+    seat: &Seat,
     table: u64,
 ) -> Result<(), ShardError<RenumberError>>
-    ensures { Looks no_memory_to_renumber (λ c r e. Renumbers c r e) table locked.old seat.old result locked.new seat.new }
+    ensures { Looks (λ c r e. Renumbers c r e) table locked.old seat.now result locked.new seat.now }
 {
-    allow(locked, &mut seat.book, table)?;
-    pass_on(&mut seat.book, locked.cell.renumber())
+    allow(locked, &seat.book, table)?;
+    locked.cell.renumber().map_err(ShardError::Cell)
 }
 
 /// Calls `TableCell::open_session`, and adds a receipt.
@@ -242,12 +236,12 @@ pub fn open_session(
     session: u32,
     version: Version,
 ) -> Result<(), ShardError<OpenError>>
-    ensures { Holds no_memory_to_open (λ c r e. Opens c session version r e) (λ done. receipted table locked.old seat.old (events.Open session version) replies.Open)
+    ensures { Holds (λ c r e. Opens c session version r e) (λ done. receipted table locked.old seat.old (events.Open session version) replies.Open)
         table locked.old seat.old result locked.new seat.new }
 {
     let room = begin(locked, &mut seat.book, table)?;
     let opened = locked.cell.open_shared(session, version);
-    let entry = pass_on(&mut seat.book, opened)?;
+    let entry = opened.map_err(ShardError::Cell)?;
     finish(locked, &mut seat.book, room, table, entry);
     Ok(())
 }
@@ -259,12 +253,12 @@ pub fn close_session(
     table: u64,
     session: u32,
 ) -> Result<(), ShardError<CloseError>>
-    ensures { Holds no_memory_to_close (λ c r e. Closes c session r e) (λ done. receipted table locked.old seat.old (events.Close session) replies.Close)
+    ensures { Holds (λ c r e. Closes c session r e) (λ done. receipted table locked.old seat.old (events.Close session) replies.Close)
         table locked.old seat.old result locked.new seat.new }
 {
     let room = begin(locked, &mut seat.book, table)?;
     let closed = locked.cell.close_shared(session);
-    let entry = pass_on(&mut seat.book, closed)?;
+    let entry = closed.map_err(ShardError::Cell)?;
     finish(locked, &mut seat.book, room, table, entry);
     Ok(())
 }
@@ -276,12 +270,12 @@ pub fn purge(
     table: u64,
     now: Moment,
 ) -> Result<usize, ShardError<PurgeError>>
-    ensures { Holds no_memory_to_purge (λ c r e. Purges c now r e) (λ count. receipted table locked.old seat.old (events.Purge now) (replies.Purge count))
+    ensures { Holds (λ c r e. Purges c now r e) (λ count. receipted table locked.old seat.old (events.Purge now) (replies.Purge count))
         table locked.old seat.old result locked.new seat.new }
 {
     let room = begin(locked, &mut seat.book, table)?;
     let purged = locked.cell.purge_with_reply(now);
-    let (count, entry) = pass_on(&mut seat.book, purged)?;
+    let (count, entry) = purged.map_err(ShardError::Cell)?;
     finish(locked, &mut seat.book, room, table, entry);
     Ok(count)
 }

@@ -12,7 +12,7 @@ returns-in_err-act-clause-failed g c =
     let p = err_from_is_err_and c.from_residual.result c.from_residual.ensures.1 in
     rw (p.1, p.2)
     (one_fails c.args.context.now.shards.now (worker c.args.session.now c.args.seat.now c.args.context.now.number c.args.context.now.moment) (worker c.loop-action.session c.loop-action.seat c.args.context.now.number c.args.context.now.moment)
-    c.act.new.session.session c.act.new.seat c.args.actions.items c.loop-action.yielded (into_iter_items c.next.new.self) c.loop-action.given.items c.in-Some.action c.in_err-act.field-0.0
+    c.act.new.session c.act.new.seat c.args.actions.items c.loop-action.yielded (into_iter_items c.next.new.self) c.loop-action.given.items c.in-Some.action c.in_err-act.field-0.0
     (written (g.W.Write.contents c.args.output.now) c.args.writes.now) (written (g.W.Write.contents c.loop-action.output) c.loop-action.writes) (written (g.W.Write.contents c.act.new.output) c.act.new.writes)
     (taken_next c.args.actions.items c.into_iter-action-iterator.result c.loop-action.action-iterator c.next.new.self c.loop-action.yielded c.in-Some.action
     c.into_iter-action-iterator.ensures.into_iter_gives.0 c.loop-action.yielded_by c.in-Some.ensures.steps)

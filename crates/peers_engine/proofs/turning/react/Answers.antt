@@ -18,7 +18,7 @@ returns-in_err-first-clause-failed g c =
     let p = err_from_is_err_and c.from_residual.result c.from_residual.ensures.1 in
     rw (p.1, p.2) (
       [],
-      inl ((c.in_err-first.field-0.0, c.in_err-first.ensures.refused, refl), refl, ap (λ (x : KeptSession). ended x.session) c.in_err-first.ensures.ended, refl {a = c.args.seat.now}),
+      inl ((c.in_err-first.field-0.0, c.in_err-first.ensures.refused, refl), refl, (ap (λ (x : KeptSession). ended x.session) c.in_err-first.ensures.ended, ap (λ (x : KeptSession). x.heard) c.in_err-first.ensures.ended, ap (λ (x : KeptSession). x.counts) c.in_err-first.ensures.ended), refl {a = c.args.seat.now}),
       writes_nothing (written (g.W.Write.contents c.args.output.now) c.args.writes.now),
     )
 
@@ -26,7 +26,7 @@ pub returns-in_err-second-clause-failed : goal.returns-in_err-second-clause-fail
 returns-in_err-second-clause-failed g c =
     let p = err_from_is_err_and c.from_residual-in_err-second.result c.from_residual-in_err-second.ensures.1 in
     rw (p.1, p.2)
-    (first_fails c.args.context.now.shards.now (worker c.args.session.now c.args.seat.now c.args.context.now.number c.args.context.now.moment) c.on.new.self c.do_all.new.session.session c.do_all.new.seat c.args.event c.in_ok-first.first.items c.in_err-second.field-0.0
+    (first_fails c.args.context.now.shards.now (worker c.args.session.now c.args.seat.now c.args.context.now.number c.args.context.now.moment) c.on.new.self c.do_all.new.session c.do_all.new.seat c.args.event c.in_ok-first.first.items c.in_err-second.field-0.0
     (written (g.W.Write.contents c.args.output.now) c.args.writes.now) (written (g.W.Write.contents c.do_all.new.output) c.do_all.new.writes)
     c.in_ok-first.ensures.steps c.in_err-second.ensures.failed)
 
@@ -34,7 +34,7 @@ pub returns-in_err-third-clause-failed : goal.returns-in_err-third-clause-failed
 returns-in_err-third-clause-failed g c =
     let p = err_from_is_err_and c.from_residual-in_err-third.result c.from_residual-in_err-third.ensures.1 in
     rw (p.1, p.2)
-    (later_fails c.args.context.now.shards.now (worker c.args.session.now c.args.seat.now c.args.context.now.number c.args.context.now.moment) (worker c.do_all.new.session c.do_all.new.seat c.args.context.now.number c.args.context.now.moment) c.on.new.self c.do_all-2.new.session.session c.do_all-2.new.seat c.args.event c.in_ok-first.first.items [] c.in_ok-second.second.items c.in_err-third.field-0.0
+    (later_fails c.args.context.now.shards.now (worker c.args.session.now c.args.seat.now c.args.context.now.number c.args.context.now.moment) (worker c.do_all.new.session c.do_all.new.seat c.args.context.now.number c.args.context.now.moment) c.on.new.self c.do_all-2.new.session c.do_all-2.new.seat c.args.event c.in_ok-first.first.items [] c.in_ok-second.second.items c.in_err-third.field-0.0
     (written (g.W.Write.contents c.args.output.now) c.args.writes.now) (written (g.W.Write.contents c.do_all.new.output) c.do_all.new.writes) (written (g.W.Write.contents c.do_all-2.new.output) c.do_all-2.new.writes)
     c.in_ok-first.ensures.steps
     (first_went (stands (worker c.args.session.now c.args.seat.now c.args.context.now.number c.args.context.now.moment) c.on.new.self c.args.seat.now) (worker c.do_all.new.session c.do_all.new.seat c.args.context.now.number c.args.context.now.moment) c.in_ok-first.first.items c.in_ok-second.second.items (written (g.W.Write.contents c.args.output.now) c.args.writes.now) (written (g.W.Write.contents c.do_all.new.output) c.do_all.new.writes) c.in_ok-second.ensures.done)
@@ -44,7 +44,7 @@ pub returns-in_err-fourth-clause-failed : goal.returns-in_err-fourth-clause-fail
 returns-in_err-fourth-clause-failed g c =
     let p = err_from_is_err_and c.from_residual-in_err-fourth.result c.from_residual-in_err-fourth.ensures.1 in
     rw (p.1, p.2)
-    (later_fails c.args.context.now.shards.now (worker c.args.session.now c.args.seat.now c.args.context.now.number c.args.context.now.moment) (worker c.do_all-2.new.session c.do_all-2.new.seat c.args.context.now.number c.args.context.now.moment) c.on.new.self c.do_all-3.new.session.session c.do_all-3.new.seat c.args.event c.in_ok-first.first.items ([] ++ c.in_ok-second.second.items) c.in_ok-third.third.items c.in_err-fourth.field-0.0
+    (later_fails c.args.context.now.shards.now (worker c.args.session.now c.args.seat.now c.args.context.now.number c.args.context.now.moment) (worker c.do_all-2.new.session c.do_all-2.new.seat c.args.context.now.number c.args.context.now.moment) c.on.new.self c.do_all-3.new.session c.do_all-3.new.seat c.args.event c.in_ok-first.first.items ([] ++ c.in_ok-second.second.items) c.in_ok-third.third.items c.in_err-fourth.field-0.0
     (written (g.W.Write.contents c.args.output.now) c.args.writes.now) (written (g.W.Write.contents c.do_all-2.new.output) c.do_all-2.new.writes) (written (g.W.Write.contents c.do_all-3.new.output) c.do_all-3.new.writes)
     c.in_ok-first.ensures.steps
     (next_went (stands (worker c.args.session.now c.args.seat.now c.args.context.now.number c.args.context.now.moment) c.on.new.self c.args.seat.now) (worker c.do_all.new.session c.do_all.new.seat c.args.context.now.number c.args.context.now.moment) (worker c.do_all-2.new.session c.do_all-2.new.seat c.args.context.now.number c.args.context.now.moment) c.in_ok-first.first.items [] c.in_ok-second.second.items c.in_ok-third.third.items (written (g.W.Write.contents c.args.output.now) c.args.writes.now) (written (g.W.Write.contents c.do_all.new.output) c.do_all.new.writes) (written (g.W.Write.contents c.do_all-2.new.output) c.do_all-2.new.writes) (first_went (stands (worker c.args.session.now c.args.seat.now c.args.context.now.number c.args.context.now.moment) c.on.new.self c.args.seat.now) (worker c.do_all.new.session c.do_all.new.seat c.args.context.now.number c.args.context.now.moment) c.in_ok-first.first.items c.in_ok-second.second.items (written (g.W.Write.contents c.args.output.now) c.args.writes.now) (written (g.W.Write.contents c.do_all.new.output) c.do_all.new.writes) c.in_ok-second.ensures.done) c.in_ok-third.ensures.done)
@@ -54,7 +54,7 @@ pub returns-in_err-do_all-clause-failed : goal.returns-in_err-do_all-clause-fail
 returns-in_err-do_all-clause-failed g c =
     let p = err_from_is_err_and c.from_residual-in_err-do_all.result c.from_residual-in_err-do_all.ensures.1 in
     rw (p.1, p.2)
-    (later_fails c.args.context.now.shards.now (worker c.args.session.now c.args.seat.now c.args.context.now.number c.args.context.now.moment) (worker c.do_all-3.new.session c.do_all-3.new.seat c.args.context.now.number c.args.context.now.moment) c.on.new.self c.do_all-4.new.session.session c.do_all-4.new.seat c.args.event c.in_ok-first.first.items (([] ++ c.in_ok-second.second.items) ++ c.in_ok-third.third.items) c.in_ok-fourth.fourth.items c.in_err-do_all.field-0.0
+    (later_fails c.args.context.now.shards.now (worker c.args.session.now c.args.seat.now c.args.context.now.number c.args.context.now.moment) (worker c.do_all-3.new.session c.do_all-3.new.seat c.args.context.now.number c.args.context.now.moment) c.on.new.self c.do_all-4.new.session c.do_all-4.new.seat c.args.event c.in_ok-first.first.items (([] ++ c.in_ok-second.second.items) ++ c.in_ok-third.third.items) c.in_ok-fourth.fourth.items c.in_err-do_all.field-0.0
     (written (g.W.Write.contents c.args.output.now) c.args.writes.now) (written (g.W.Write.contents c.do_all-3.new.output) c.do_all-3.new.writes) (written (g.W.Write.contents c.do_all-4.new.output) c.do_all-4.new.writes)
     c.in_ok-first.ensures.steps
     (next_went (stands (worker c.args.session.now c.args.seat.now c.args.context.now.number c.args.context.now.moment) c.on.new.self c.args.seat.now) (worker c.do_all-2.new.session c.do_all-2.new.seat c.args.context.now.number c.args.context.now.moment) (worker c.do_all-3.new.session c.do_all-3.new.seat c.args.context.now.number c.args.context.now.moment) c.in_ok-first.first.items ([] ++ c.in_ok-second.second.items) c.in_ok-third.third.items c.in_ok-fourth.fourth.items (written (g.W.Write.contents c.args.output.now) c.args.writes.now) (written (g.W.Write.contents c.do_all-2.new.output) c.do_all-2.new.writes) (written (g.W.Write.contents c.do_all-3.new.output) c.do_all-3.new.writes) (next_went (stands (worker c.args.session.now c.args.seat.now c.args.context.now.number c.args.context.now.moment) c.on.new.self c.args.seat.now) (worker c.do_all.new.session c.do_all.new.seat c.args.context.now.number c.args.context.now.moment) (worker c.do_all-2.new.session c.do_all-2.new.seat c.args.context.now.number c.args.context.now.moment) c.in_ok-first.first.items [] c.in_ok-second.second.items c.in_ok-third.third.items (written (g.W.Write.contents c.args.output.now) c.args.writes.now) (written (g.W.Write.contents c.do_all.new.output) c.do_all.new.writes) (written (g.W.Write.contents c.do_all-2.new.output) c.do_all-2.new.writes) (first_went (stands (worker c.args.session.now c.args.seat.now c.args.context.now.number c.args.context.now.moment) c.on.new.self c.args.seat.now) (worker c.do_all.new.session c.do_all.new.seat c.args.context.now.number c.args.context.now.moment) c.in_ok-first.first.items c.in_ok-second.second.items (written (g.W.Write.contents c.args.output.now) c.args.writes.now) (written (g.W.Write.contents c.do_all.new.output) c.do_all.new.writes) c.in_ok-second.ensures.done) c.in_ok-third.ensures.done) c.in_ok-fourth.ensures.done)

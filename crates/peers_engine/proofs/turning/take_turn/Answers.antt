@@ -21,7 +21,7 @@ returns-then-branch-clause-done g c =
 pub returns-then-branch-clause-failed : goal.returns-then-branch-clause-failed
 returns-then-branch-clause-failed g c =
     IfErr-weaker c.receive.result _ _
-    (λ error. then_fails c.args.context.now.shards.now (worker c.args.session.now c.args.seat.now c.args.context.now.number c.args.context.now.moment) (worker c.react.new.session c.react.new.seat c.args.context.now.number c.args.context.now.moment) c.receive.new.session.session c.receive.new.seat c.first_event-event.result error
+    (λ error. then_fails c.args.context.now.shards.now (worker c.args.session.now c.args.seat.now c.args.context.now.number c.args.context.now.moment) (worker c.react.new.session c.react.new.seat c.args.context.now.number c.args.context.now.moment) c.receive.new.session c.receive.new.seat c.first_event-event.result error
     (g.R.Read.remaining c.args.input.now) (g.R.Read.remaining c.receive.new.input)
     (written (g.W.Write.contents c.args.output.now) c.args.writes.now) (written (g.W.Write.contents c.react.new.output) c.react.new.writes) (written (g.W.Write.contents c.receive.new.output) c.receive.new.writes)
     (c.first_event-event.ensures ∙ ap first_event c.state.ensures) (c.react.ensures.idle (c.in_ok-react.was ∙ ap Ok c.if-branch.true)))
@@ -31,7 +31,7 @@ pub returns-in_err-react-clause-failed : goal.returns-in_err-react-clause-failed
 returns-in_err-react-clause-failed g c =
     let p = err_from_is_err_and c.from_residual.result c.from_residual.ensures.1 in
     rw (p.1, p.2)
-    (alone_fails c.args.context.now.shards.now (worker c.args.session.now c.args.seat.now c.args.context.now.number c.args.context.now.moment) c.react.new.session.session c.react.new.seat c.first_event-event.result c.in_err-react.field-0.0 (g.R.Read.remaining c.args.input.now)
+    (alone_fails c.args.context.now.shards.now (worker c.args.session.now c.args.seat.now c.args.context.now.number c.args.context.now.moment) c.react.new.session c.react.new.seat c.first_event-event.result c.in_err-react.field-0.0 (g.R.Read.remaining c.args.input.now)
     (written (g.W.Write.contents c.args.output.now) c.args.writes.now) (written (g.W.Write.contents c.react.new.output) c.react.new.writes) (c.first_event-event.ensures ∙ ap first_event c.state.ensures) c.in_err-react.ensures.failed refl)
 
 pub returns-then-branch-clause-idle : goal.returns-then-branch-clause-idle

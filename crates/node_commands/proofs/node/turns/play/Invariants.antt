@@ -3,5 +3,5 @@ use Rattle.node_commands.proofs.node.turns.play.Given as goal
 
 abbrev pub invariant-loop-before : goal.invariant-loop-before
 invariant-loop-before g l =
-    HasPlayed l.turns.pace l.fn.worker l.turns.most l.before l.worker
+    HasPlayed l.shards l.turns.pace l.fn.worker l.turns.most l.before l.worker
     (g.R.Read.remaining l.fn.from) (g.R.Read.remaining l.from) (g.W.Write.contents l.fn.to) (g.W.Write.contents l.to)

@@ -1,4 +1,3 @@
-use Rattle.session_core.specs.Sessions.{phase_of}
 use Rattle.session_core.specs.Standing.{stood}
 use Rattle.session_core.proofs.StandingExactly.{step_refuses}
 use Rattle.session_core.proofs.stay.Stay.on.Goals as goal

@@ -6,5 +6,5 @@ use Rattle.table_shards.proofs.held.noted.copy.Goals as goal
 pub returns : goal.returns
 returns c =
     let events = c.events-events.ensures.events ∙ ap events_of c.cell.ensures in
-    let left = noted_as c.args.table c.args.session c.events-events.result (events_of c.args.locked.now) c.if_nothing.result _ c.copy-copied.new.seat c.note.new.self c.note.ensures events c.if_nothing.ensures in
+    let left = noted_as c.args.table c.args.session c.events-events.result (events_of c.args.locked.now) c.if_uncopied.result _ c.copy-copied.new.seat c.note.new.self c.note.ensures events c.if_uncopied.ensures in
     (c.copy-copied.new.seat, c.copy-copied.ensures, left)

@@ -6,5 +6,5 @@ use Rattle.table_shards.proofs.held.noted.learn.Goals as goal
 pub returns : goal.returns
 returns c =
     let events = c.events-events.ensures.events ∙ ap events_of c.cell.ensures in
-    let left = noted_as c.args.table c.args.session c.events-events.result (events_of c.args.locked.now) c.if_full.result _ c.learn-learned.new.seat c.note.new.self c.note.ensures events c.if_full.ensures in
+    let left = noted_as c.args.table c.args.session c.events-events.result (events_of c.args.locked.now) c.if_unlearned.result _ c.learn-learned.new.seat c.note.new.self c.note.ensures events c.if_unlearned.ensures in
     (c.learn-learned.new.seat, c.learn-learned.ensures, left)

@@ -1,0 +1,3 @@
+pub mod ErrorsTold
+pub mod Leaving
+pub mod StopsWait

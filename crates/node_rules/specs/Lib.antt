@@ -1,0 +1,11 @@
+pub mod Arrivals
+pub mod Attempts
+pub mod EndNews
+pub mod EndingRuns
+pub mod Endings
+pub mod Findings
+pub mod HelloRefusals
+pub mod PeerRecords
+pub mod PeerRuns
+pub mod Resyncs
+pub mod Seats

@@ -1,6 +1,0 @@
-use Rattle.std.proofs.Common.{◌≡◌, drop}
-use Rattle.session_core.specs.AskedCounts.{all_asked}
-use Rattle.session_core.proofs.tally.Tally.count.Given as goal
-
-abbrev pub invariant-loop-action : goal.invariant-loop-action
-invariant-loop-action l = all_asked (drop l.action-index l.actions) l.self.counts ≡ all_asked l.actions l.fn.self.counts

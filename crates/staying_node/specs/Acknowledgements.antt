@@ -1,0 +1,8 @@
+-- Whether a peer has acknowledged what it was taught.
+use Rattle.std.specs.Prelude.{Bool, ◌||◌, ◌==◌}
+use Rattle.std.specs.Option.{unwrap_or}
+use Rattle.session_core.specs.declared.progress.Progress.{Progress}
+
+-- the last number of the table that was taught is acknowledged, or the table was left
+abbrev pub is_acknowledged : Progress → Bool
+is_acknowledged p = p.left || p.last == unwrap_or p.acknowledged 0
