@@ -309,7 +309,7 @@ Nobody t n p s = (s ≡ p) × ((i : ℕ) → i < n → is_next i t p ≡ false)
 abbrev Someone : ℕ → Option ℕ → ℕ → AskingState → AskingState → Type 0
 Someone peer then t p s = Stands peer then s.peers × (w : Awaited) × (s.awaited ≡ Some w) × (w.asked_at ≡ t) × (ahead then p.peers ≡ suc (ahead then s.peers))
 
--- of so many peers that were to be asked nobody was, or somebody was, unless the node is done
+-- Unless the node is done with the peer, it asked none of the first `n` peers, or one of them.
 abbrev Offered : ℕ → ℕ → Option ℕ → ℕ → ℕ → AskingState → AskingState → Type 0
 Offered peer now then t n p s = Done peer now s ⊎ (Nobody t n p s ⊎ Someone peer then t p s)
 
@@ -479,7 +479,7 @@ one_more len j n m less same = omega (arith, less, same)
 none_yet : (j n : ℕ) → 0 < suc j + 601 * n
 none_yet j n = omega arith
 
--- so many seconds pass until the peer can be asked
+-- `k` seconds pass until the node may ask the peer again
 all_seconds : (peer now k t : ℕ) (then : Option ℕ) (seconds : List (List Happening)) (a : AskingState) → now ≤ t → is_overdue (t + 1000 * k) then ≡ true → are_timely peer t seconds ≡ true → Stands peer then a.peers → Are (IsBefore t) a.awaited → Done peer now (after_seconds t seconds a) ⊎ (length seconds < k + 601 * length a.peers)
 all_seconds peer now zero t then seconds a order due times stands are = elim (due_seconds peer now t then seconds a order (subst (λ (m : ℕ). is_overdue m then ≡ true) (no_time t) due) times stands) [
   | inl done ↦ inl done

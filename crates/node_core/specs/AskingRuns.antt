@@ -160,7 +160,7 @@ abbrev pub are_timely : ℕ → ℕ → List (List Happening) → Bool
 are_timely peer now [] = true
 are_timely peer now (hs ∷ more) = list_all (is_timely peer now) hs && are_timely peer (now + 1000) more
 
--- the node looks: the time is noted, and each of so many peers is asked if it is next
+-- The node notes the time, and asks each of this many peers, from the first on, whose turn it is.
 abbrev pub looked : ℕ → ℕ → AskingState → AskingState
 looked now zero a = after (Passes now) a
 looked now (suc peer) a = after (Asks peer now) (looked now peer a)

@@ -50,6 +50,6 @@ idle_turns (Works ∷ hs) = idle_turns hs
 idle_turns (Rests ∷ hs) = idle_turns hs
 idle_turns (Looks now stops ∷ hs) = idle_turns hs
 
--- Since the worker saw that the node stops, there were at least so many turns, in none of the last of which there was anything to do.
+-- Since the worker saw that the node stops, at least `turns` turns in a row found nothing to do.
 abbrev pub IdledSinceStop : ℕ → List Happening → Type 0
 IdledSinceStop turns hs = (since before : List Happening) × (hs ≡ since ++ before) × (has_seen_stop before ≡ true) × (list_all is_quiet since ≡ true) × (turns ≤ idle_turns since)

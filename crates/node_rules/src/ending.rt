@@ -21,10 +21,10 @@ pub struct Outside {
 
 /// When a session ends for what happens outside it.
 ///
-/// For the stop of the node it ends once nothing is left to teach of what the node has answered. A change is answered only if the node
-/// didn't stop yet when its row was in the table already. So the row was there before this machine saw that the node stops. Only turns
-/// that came after that count as idle, and each of them looked at its table, under the table's lock; so one of them would have found
-/// the row.
+/// When the node stops, a session ends once its peer has been taught every change that the node has answered. The node answers a
+/// change only if it didn't stop yet when the row was in the table already. So the row was there before this machine saw that the
+/// node stops. Only turns that came after that count as idle, and each of them looked at its table, under the table's lock; so one
+/// of them would have found the row.
 #[derive(Clone, Copy, Debug)]
 pub struct Ending {
     /// When the session's hello was over, if it is, in milliseconds since the node began.

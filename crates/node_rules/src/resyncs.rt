@@ -158,8 +158,8 @@ impl Learning {
         self.asked.is_some()
     }
 
-    /// Notes that the peer is asked, by when this many rows were learned and it had ended so many resyncs. One that was asked before, and
-    /// hasn't answered, goes on with the same resync.
+    /// Notes that the node asks the peer at `now`, when it has learned `learned` rows and `heard` counts the ends of resyncs that the
+    /// peer has sent. A peer that was asked before, and hasn't answered, goes on with the same resync.
     pub fn ask(&mut self, now: u64, learned: u64, heard: ResyncsHeard)
         ensures { self.new ≡ asked now learned heard self.old }
     {

@@ -482,8 +482,8 @@ fn answer<R: Wait + Clock + Files>(
 }
 
 /// Reads requests from the connection at a place and writes their answers until it ends, it has been idle for too long, another takes its
-/// place, the node stops, or a line ends it. How long it has been idle is judged by when a read begins, so what came while the node stood
-/// still is answered first.
+/// place, the node stops, or a line ends it. How long it has been idle is judged when a read begins, so the node first answers what came
+/// while it stood still.
 fn serve<R: Wait + Clock + Files>(
     rt: &R,
     clients: &Clients,

@@ -87,7 +87,7 @@ impl Visit {
     }
 
     /// Reads what has come, answers it if it is a whole request, and discards it if one was answered. Returns whether the visit
-    /// goes on, judged by when the read begins, so that what came while the node stood still is answered first.
+    /// goes on, judged when the read begins, so the node first answers what came while it stood still.
     fn turn<R: Wait + Clock + Files>(&mut self, rt: &R, viewer: &Viewer<'_>) -> io::Result<bool> {
         let now = viewer.node().clock.milliseconds(rt);
         let mut piece = [0u8; PIECE];
