@@ -1,9 +1,9 @@
 # Checks of `run --check`. They stand in a file of their own, which bin/test reads.
 
 # checked_is ANSWER WHAT: ANSWER is `taken`, maybe with warnings, or how the lines begin that say why `run --check` refuses the
-# configuration in $scene.
+# configuration in $scene. Warnings may stand behind these.
 checked_is() {
-    local heads
+    local heads warned
     run run --check <"$scene"
     case $1 in
         taken)
@@ -17,8 +17,9 @@ checked_is() {
             ;;
         *)
             ends "run --check of $2" 1 '' "$errors"
-            heads=$(sed 's/: .*//' "$scratch/errors" | paste -sd, | sed 's/,/, /g')
-            if [ "$heads" = "$1" ] && ! LC_ALL=C grep -q '[^ -~]' "$scratch/errors"; then
+            heads=$(sed -E '/^[a-z0-9 ]+: warning: /Q; s/: .*//' "$scratch/errors" | paste -sd, | sed 's/,/, /g')
+            warned=$(sed -E '1,/^[a-z0-9 ]+: warning: /d; /^[a-z0-9 ]+: warning: /d' "$scratch/errors")
+            if [ "$heads" = "$1" ] && [ -z "$warned" ] && ! LC_ALL=C grep -q '[^ -~]' "$scratch/errors"; then
                 pass
             else
                 fail "run --check of $2: $1 is refused, but standard error is:"

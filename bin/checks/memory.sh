@@ -271,17 +271,14 @@ meets() {
 }
 
 refused_calls() {
-    meets tests_tables calls_again '' ack close copy learn open purge track 'track in a full table' 'track of a row that is there'
+    meets tests_tables calls_again '' ack 'ack of a wide row' close copy 'copy of a wide row' learn 'learn of a wide row' open \
+        'open of a fifth session' purge track 'track in a full table' 'track in a full table of wide rows' 'track of a row that is there' \
+        'track of a wide row' 'track of a wide row that is there'
     meets tests_tables tracks_from_a_seat_again '' held::track
     meets tests_tables copies_from_a_seat_again '' held::copy
     meets tests_tables unlocks_again '' unlock
     meets tests_tables begins_another_round_again '' next_round
     meets tests_tables answers_without_memory --all 'settle, track, slide, checkpoint, held::begin_anew and take all the same'
-    meets tests_tables tracks_wide_rows_again ''
-    meets tests_tables learns_a_wide_row_again ''
-    meets tests_tables copies_wide_rows_again ''
-    meets tests_tables acknowledges_wide_rows_again ''
-    meets tests_tables opens_a_fifth_session_again ''
     meets tests_data plans_again '' plan
     meets tests_data plans_by_adding_again '' 'plan by adding'
     meets tests_data teaches_again '' teach

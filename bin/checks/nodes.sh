@@ -495,8 +495,9 @@ two_nodes() {
     both_orders "$scratch/two"
     cp examples/nodes/all-kinds.scene "$scratch/served"
     both_orders examples/nodes/all-kinds
-    { echo 'table 1 t1 integer 4 0 gpc0'; repeat_lines 512 'update 1 1 0 %d 5'; } >"$scratch/served"
-    awk 'BEGIN { for (i = 0; i < 512; i++) printf "row 1 - %d 5\n", i }' >"$scratch/many.rows"
+    # More rows than a block of a seat's receipts holds, and than a lesson.
+    { echo 'table 1 t1 integer 4 0 gpc0'; repeat_lines 2000 'update 1 1 0 %d 5'; } >"$scratch/served"
+    awk 'BEGIN { for (i = 0; i < 2000; i++) printf "row 1 - %d 5\n", i }' >"$scratch/many.rows"
     both_orders "$scratch/many"
     strangers
     cp examples/two-updates.scene "$scratch/served"

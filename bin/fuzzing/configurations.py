@@ -17,7 +17,7 @@ WARNING = re.compile(rb'(?:configuration|line ([1-9][0-9]*)): warning: [ -~]+\n'
 LONGEST = 2 ** 31 - 1
 # Lines that are refused wherever they stand.
 WRONG = (b'nod n', b'node', b'node -', b'node ' + b'n' * 256, b'node n m', b'node \x7f', b'Node n', b'node #n', b'node\rn', b'listen', b'listen 10.0.0.1', b'listen 10.0.0.1:', b'listen 10.0.0.1:0', b'listen 10.0.0.1:65536', b'listen 10.0.0.1:05',
-         b'listen 256.0.0.1:5', b'listen 10.0.0:5', b'listen 010.0.0.1:5', b'listen localhost:5', b'listen ::1:5', b'listen [::1%lo]:5', b'listen [::1]',
+         b'listen 256.0.0.1:5', b'listen 10.0.0:5', b'listen 010.0.0.1:5', b'listen localhost:5', b'listen ::1:5', b'listen [::1%lo]:5', b'listen [fe80::1]:5', b'listen [::1]',
          b'listen [::g]:5', b'listen [1::2::3]:5', b'listen 10.0.0.1:5 6', b'admin 10.0.0.1:5', b'admin 0.0.0.0:5', b'admin [::2]:5', b'admin [::]:5',
          b'section -', b'section', b'section a b', b'peer', b'peer -', b'peer - 10.0.0.1:5', b'peer p 10.0.0.1', b'peer p 10.0.0.1:5 6', b'peer p p:5',
          b'peer ' + b'p' * 256, b'peer p from', b'peer p 10.0.0.1:5 from', b'peer p 10.0.0.1:5 10.0.0.1', b'peer p from 10.0.0.1:5', b'peer p from [::1]',
@@ -182,6 +182,13 @@ def warned(data):
     return numbers + ['configuration'] * all(words[0] != b'peer' for _, words in said)
 
 
+def parted(errors):
+    """Returns the lines of standard error before the first warning, and the others."""
+    lines = errors.splitlines(keepends=True)
+    first = next((at for at, line in enumerate(lines) if WARNING.fullmatch(line)), len(lines))
+    return lines[:first], lines[first:]
+
+
 def checked(program, data):
     """Returns what `run --check` says of a configuration: `taken`, or the number of each refused line and `configuration` for each that is
     missing, in order."""
@@ -193,11 +200,15 @@ def checked(program, data):
         found = [int(WARNING.fullmatch(line)[1] or 0) or 'configuration' for line in said]
         require(found == warned(data), 'the lines that are warned of', 'are others', found, warned(data))
         return 'taken'
-    said = ending.errors.splitlines(keepends=True)
+    said, warnings = parted(ending.errors)
     require(1 <= len(said) <= MOST and all(FAULT.fullmatch(line) for line in said), 'standard error', 'of run --check', ending.errors)
     found = [FAULT.fullmatch(line)[1] for line in said]
     numbers = [int(number) for number in found if number]
     require(numbers == sorted(set(numbers)) and None not in found[:len(numbers)], 'standard error', 'is not in the order of lines', ending.errors)
+    require(all(WARNING.fullmatch(line) for line in warnings), 'standard error', 'has faults behind warnings', ending.errors)
+    places = [int(WARNING.fullmatch(line)[1] or 0) for line in warnings]
+    alone = len(numbers) < MOST and all(words[0] != b'peer' for _, words in statements(data))
+    require(not set(places) & set(numbers) and places.count(0) == alone, 'the lines that are warned of', 'beside faults', ending.errors)
     return numbers + ['configuration'] * found.count(None)
 
 

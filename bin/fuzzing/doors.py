@@ -1,4 +1,4 @@
-"""Connections at the doors of a node that stays: hellos that are refused, cut, slow or many (docs/FORMATS.md, section 10).
+"""Connections at the doors of a node that stays: hellos that are refused, cut, slow or many (docs/FORMATS.md, section 8).
 
   hello BYTES                 a connection, what it says, and the status that answers it
   leave BYTES                 says it and leaves at once

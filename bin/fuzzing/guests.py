@@ -1,4 +1,4 @@
-"""Sessions with a node that stays: as the peer `c`, which connects to it, or as `d`, to which it connects (docs/FORMATS.md, section 12).
+"""Sessions with a node that stays: as the peer `c`, which connects to it, or as `d`, to which it connects (docs/FORMATS.md, section 9).
 
 The acts are those of `sessions.py`, and these:
 

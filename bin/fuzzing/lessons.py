@@ -1,4 +1,4 @@
-"""What a teacher knows, batches, the sizes of lessons, and the verdict on a stream (docs/FORMATS.md, sections 5, 6 and 9)."""
+"""What a teacher knows, batches, the sizes of lessons, and the verdict on a stream (docs/FORMATS.md, sections 5, 6 and 11)."""
 
 from collections import namedtuple
 

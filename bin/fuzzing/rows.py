@@ -1,4 +1,4 @@
-"""The rows and acknowledgements that the program prints, read strictly (docs/FORMATS.md, section 9)."""
+"""The rows and acknowledgements that the program prints, read strictly (docs/FORMATS.md, section 11)."""
 
 import re
 

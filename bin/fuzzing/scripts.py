@@ -1,4 +1,4 @@
-"""Scripts of one table: random calls, and what their answers have to keep to (docs/FORMATS.md, sections 7 and 11)."""
+"""Scripts of one table: random calls, and what their answers have to keep to (docs/FORMATS.md, sections 7 and 12)."""
 
 import re
 

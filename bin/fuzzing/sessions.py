@@ -1,4 +1,4 @@
-"""Sessions over TCP: a far side that keeps to the protocol or doesn't, against a node that serves or joins (docs/FORMATS.md, section 12).
+"""Sessions over TCP: a far side that keeps to the protocol or doesn't, against a node that serves or joins (docs/FORMATS.md, section 9).
 
 A far side is given as a list of acts:
 

@@ -1,4 +1,4 @@
-"""Tables, their keys, values and names: random ones, as bytes of a stream and as words of a scene (docs/FORMATS.md, 3, 8 and 9)."""
+"""Tables, their keys, values and names: random ones, as bytes of a stream and as words of a scene (docs/FORMATS.md, 3, 10 and 11)."""
 
 from collections import namedtuple
 

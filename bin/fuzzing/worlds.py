@@ -1,4 +1,4 @@
-"""Scripts of worlds: random steps, and what the answers have to keep to (docs/FORMATS.md, section 11)."""
+"""Scripts of worlds: random steps, and what the answers have to keep to (docs/FORMATS.md, section 12)."""
 
 import re
 

@@ -1,4 +1,4 @@
-"""Far sides that speak the peers protocol: scripted ones, which keep to it as they are told to (docs/FORMATS.md, sections 1 to 12).
+"""Far sides that speak the peers protocol: scripted ones, which keep to it as they are told to (docs/FORMATS.md, sections 1 to 9).
 
 A far side has a thread of its own, which notes each message and when it came, and which answers by the far side's manners:
 

@@ -331,7 +331,7 @@ def leaves_under_a_flood(trial):
 
 @check
 def deaf(trial):
-    """a peer that doesn't read ends its own session, and delays nobody else's"""
+    """a peer that doesn't read ends its own session, and delays nobody else's, nor a change of the table that it is being taught"""
     node = node_of_b(trial, peers=('b', 'c'), tables=('table 1 long string 8192 0 gpc0', T1.replace('1 t1', '2 t1')))
     c = connected(trial, node, 'c')
     up_to_date(node)
@@ -344,6 +344,11 @@ def deaf(trial):
     while place < 8 or node.peer('b')['state'] != 'down':
         node.ask('track t1 %d add gpc0 1' % place)
         c.gets_row('t1', place, (1,), 3)
+        if place == 2:
+            equal(node.peer('b')['state'], 'teaching', 'the state while a lesson waits')
+            asked = time.monotonic()
+            equal(node.ask('track long =x add gpc0 1'), 'reply 601 - =x 1 local', 'a change of its table')
+            between(0, time.monotonic() - asked, 1, 'seconds until it is answered')
         between(0, time.monotonic() - begun, 30, 'seconds until the session is over')
         with contextlib.suppress(OSError):
             peer.sendall(HEARTBEAT)

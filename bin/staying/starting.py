@@ -24,11 +24,16 @@ def ends(trial, words, text, status, errors):
     equal((run.returncode, run.stdout, run.stderr), wanted, '%s with %r' % (' '.join(words), text[-200:]))
 
 
+def heads_of(lines):
+    """Returns how the lines begin that name a fault; warnings stand behind them."""
+    return [line.split(b': ')[0] for line in lines if b': warning: ' not in line]
+
+
 def refused(trial, words, text, heads):
-    """Returns the lines on standard error, which say that a configuration is refused and begin so."""
+    """Returns the lines on standard error, which say that a configuration is refused and begin so, and warn of others."""
     run = subprocess.run([trial.program, *words], input=text, capture_output=True, timeout=PATIENCE, check=False)
     lines = run.stderr.splitlines()
-    equal((run.returncode, run.stdout, [line.split(b': ')[0] for line in lines]), (1, b'', heads), '%s with %r' % (' '.join(words), text[-200:]))
+    equal((run.returncode, run.stdout, heads_of(lines)), (1, b'', heads), '%s with %r' % (' '.join(words), text[-200:]))
     return lines
 
 
@@ -105,7 +110,8 @@ def said_for_the_journal(trial):
         port_taken(trial, b'log journal # here\nnode n\nlisten 127.0.0.1:%d\n' % port, b'<3>listen 127.0.0.1:%d: Address already in use\n' % port)
     run = subprocess.run([trial.program, 'run'], input=b'nod m\nnode m\n\tlog  journal\r\n' + T1.encode(), capture_output=True, timeout=PATIENCE, check=False)
     lines = run.stderr.splitlines()
-    equal((run.returncode, [line.split(b': ')[0] for line in lines]), (1, [b'<3>line 1', b'<3>configuration']), 'the lines of a refused configuration')
+    equal((run.returncode, heads_of(lines)), (1, [b'<3>line 1', b'<3>configuration']), 'the lines of a refused configuration')
+    require(all(line.startswith(b'<3>') for line in lines), 'each line has the number of an error:', run.stderr)
     run = subprocess.run([trial.program, 'run'], input=b'nod m\n# log journal\nlog journals\n', capture_output=True, timeout=PATIENCE, check=False)
     require(b'<3>' not in run.stderr, 'no number without such a line:', run.stderr)
 

@@ -3,7 +3,8 @@ use Rattle.std.proofs.Common.{◌≡◌, ◌∙◌, ◌^◌, ◌<◌, ◌≤◌,
 use Rattle.std.specs.Prelude.{Contains, MatchOption, None, Option, Some, if◌then◌else◌}
 use Rattle.std.specs.Fmt.{decimal}
 use Rattle.std.specs.List.{list_all}
-use Rattle.std.specs.Net.Grammar.{IsIpv4Text, IsIpv6Text}
+use Rattle.std.specs.Net.Addr.{IsWithinAt, ipv6_segments}
+use Rattle.std.specs.Net.Grammar.{IsColonHex, IsDotted, IsIpv4Text, IsIpv6Text}
 use Rattle.std.specs.Net.Socket.{socket_ip, socket_port}
 use Rattle.std.specs.declared.net.ip_addr.IpAddr.{IpAddr}
 use Rattle.std.specs.declared.net.ip_addr.IpAddr.TheVariants as ips
@@ -15,9 +16,12 @@ use Rattle.std.proofs.lemmas.Fmt.{digits_decimal}
 use Rattle.std.proofs.lemmas.List.{append_assoc, append_cancel_right}
 use Rattle.std.proofs.lemmas.List.Elements.{All-contains, Contains-append_right}
 use Rattle.std.proofs.lemmas.List.Sums.{AllPass-from_list_all}
+use Rattle.std.proofs.NetLemmas.Ipv4.{read_ipv4_complete}
+use Rattle.std.proofs.NetLemmas.Ipv6.{EndsGroups-nil, read_ipv6_complete}
+use Rattle.std.proofs.NetLemmas.Options.{same_parts}
 use Rattle.std.proofs.lemmas.Str.Parse.{IsNumeralModel, numerals_by_fold}
 use Rattle.node_text.specs.Numbers.{digits_from, from_one, is_digit, number_of}
-use Rattle.admin_text.specs.Addresses.{IsAddressText, IsHostText}
+use Rattle.admin_text.specs.Addresses.{IsAddressText, IsHostText, IsLinkLocal}
 
 -- ---- the last of a kind of byte
 
@@ -129,3 +133,31 @@ pub none_outside : (text : List ℕ) → ((inner : List ℕ) → text ≡ 91 ∷
     → (ip : IpAddr) → IsHostText text ip → ⊥
 none_outside text outside none (ips.V4 ip) dotted = none ip dotted
 none_outside text outside none (ips.V6 ip) (inner, same, reads) = outside inner same
+
+-- ---- a host is one address
+
+pub one_dotted : (text one other : List ℕ) → IsDotted text one → IsDotted text other → one ≡ other
+one_dotted text one other is also =
+    (same_parts one other [] [] (sym (read_ipv4_complete text one [] is (omega arith)) ∙ read_ipv4_complete text other [] also (omega arith))).0
+
+pub one_colon_hex : (text one other : List ℕ) → IsColonHex text one → IsColonHex text other → one ≡ other
+one_colon_hex text one other is also =
+    (same_parts one other [] [] (sym (read_ipv6_complete text one [] is EndsGroups-nil) ∙ read_ipv6_complete text other [] also EndsGroups-nil)).0
+
+link_host : (text : List ℕ) (one other : IpAddr) → IsHostText text one → IsHostText text other → IsLinkLocal one → IsLinkLocal other
+link_host text (ips.V4 one) other is also link = absurd link
+link_host text (ips.V6 one) (ips.V4 other) (inner, same, is) also link = absurd (dotted_alone text inner other same also)
+link_host text (ips.V6 one) (ips.V6 other) (inner, same, is) (second, too, also) link =
+    let tails : second ++ 93 ∷ [] ≡ inner ++ 93 ∷ [] = cc in
+    let first = append_cancel_right second inner (93 ∷ []) tails in
+    subst (λ segments. IsWithinAt segments 0 0xfe80 0xfebf)
+    (one_colon_hex inner (ipv6_segments one) (ipv6_segments other) is (subst (λ t. IsColonHex t (ipv6_segments other)) first also)) link
+
+pub no_zone : (word h p : List ℕ) (ip : IpAddr) (r : Option SocketAddr) → r ≡ None → word ≡ h ++ 58 ∷ p → (Contains p 58 → ⊥) → IsHostText h ip
+    → IsLinkLocal ip → MatchOption r ((a : SocketAddr) → IsAddressText word a → ⊥) (IsAddressText word)
+no_zone word h p ip r is cut none host_is link =
+    none_met r ((a : SocketAddr) → IsAddressText word a → ⊥) (IsAddressText word) is
+    (λ a reads.
+    let (host, port, spelled, names, number, ranges) = reads in
+    let parts = last_apart h p host port 58 (sym cut ∙ spelled) none (no_colon port (socket_port a) number) in
+    ranges.3 (link_host h ip (socket_ip a) host_is (subst (λ t. IsHostText t (socket_ip a)) (sym parts.0) names) link))

@@ -2,14 +2,11 @@
 use Rattle.std.proofs.Common.{◌≡◌, ◌∙◌, ◌-◌, ◌==◌, ◌&&◌, ◌++◌, ap, false, inl, inr, arith, length, List, [], ◌∷◌, refl, subst, suc, sym, take, true, true≢false, zero, ℕ}
 use Rattle.std.specs.Prelude.{◌⊎◌, Err, None, Ok, Option, Result, Some, not}
 use Rattle.std.specs.Net.Addr.{HasPrefix, IsLoopbackV4, IsLoopbackV6, MatchIp, ipv4_octets, ipv6_segments}
-use Rattle.std.specs.Net.Grammar.{IsColonHex, IsDotted}
+use Rattle.std.specs.Net.Grammar.{IsColonHex}
 use Rattle.std.specs.Net.Socket.{socket_ip, socket_port}
 use Rattle.std.specs.declared.net.ip_addr.IpAddr.{IpAddr}
 use Rattle.std.specs.declared.net.ip_addr.IpAddr.TheVariants as ips
 use Rattle.std.specs.declared.net.socket_addr.SocketAddr.{SocketAddr}
-use Rattle.std.proofs.NetLemmas.Ipv4.{read_ipv4_complete}
-use Rattle.std.proofs.NetLemmas.Ipv6.{EndsGroups-nil, read_ipv6_complete}
-use Rattle.std.proofs.NetLemmas.Options.{same_parts}
 use Rattle.std.proofs.lemmas.Bool.{eqb-true, not-false}
 use Rattle.std.proofs.lemmas.List.{append-nil, append_cancel_right}
 use Rattle.admin_text.specs.Addresses.{IsAddressText, IsHostText, IsLocal}
@@ -32,18 +29,10 @@ use Rattle.admin_text.specs.declared.readings.Reading.{Reading}
 use Rattle.admin_text.specs.declared.refusals.Refusal.{Refusal}
 use Rattle.admin_text.specs.declared.settings.Setting.{Setting}
 use Rattle.admin_text.specs.declared.settings.Setting.TheVariants as settings
-use Rattle.admin_text.proofs.AddressTexts.{dotted_alone, last_apart, no_colon}
+use Rattle.admin_text.proofs.AddressTexts.{dotted_alone, last_apart, no_colon, one_colon_hex, one_dotted}
 use Rattle.admin_text.proofs.LineFacts.{and_parts}
 
 -- ---- a host is one address
-
-one_dotted : (text one other : List ℕ) → IsDotted text one → IsDotted text other → one ≡ other
-one_dotted text one other is also =
-    (same_parts one other [] [] (sym (read_ipv4_complete text one [] is (omega arith)) ∙ read_ipv4_complete text other [] also (omega arith))).0
-
-one_colon_hex : (text one other : List ℕ) → IsColonHex text one → IsColonHex text other → one ≡ other
-one_colon_hex text one other is also =
-    (same_parts one other [] [] (sym (read_ipv6_complete text one [] is EndsGroups-nil) ∙ read_ipv6_complete text other [] also EndsGroups-nil)).0
 
 local_host : (text : List ℕ) (one other : IpAddr) → IsHostText text one → IsHostText text other → MatchIp one IsLoopbackV4 IsLoopbackV6
     → MatchIp other IsLoopbackV4 IsLoopbackV6

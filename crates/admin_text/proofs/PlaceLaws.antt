@@ -1,16 +1,18 @@
 -- The addresses and the warnings of more and more lines.
-use Rattle.std.proofs.Common.{◌≡◌, ◌∙◌, ◌+◌, ◌<◌, ◌++◌, ℕ, Bool, List, [], ◌∷◌, add-one, ap, append_assoc, get_or, length, map, refl, subst, sym, take}
-use Rattle.std.specs.Prelude.{Err, Ok, OnOk, Option, Result, option_to_list}
+use Rattle.std.proofs.Common.{◌≡◌, ◌∙◌, ◌+◌, ◌<◌, ◌≤◌, ◌++◌, ℕ, Bool, true, false, List, [], ◌∷◌, add-one, ap, append_assoc, arith, get_or, inl, inr, length, map, refl, subst, sym, take}
+use Rattle.std.specs.Prelude.{Err, Ok, OnOk, Option, Result, if◌then◌else◌, option_to_list}
 use Rattle.std.proofs.Math.Seq.{take-suc}
 use Rattle.std.proofs.lemmas.List.{append-nil, map-append}
 use Rattle.admin_text.specs.Places.{ArePlaces, IsPlaceOf}
-use Rattle.admin_text.specs.Refusals.{Adds, AreLines}
+use Rattle.admin_text.specs.SaidLines.{Adds, AreLines}
 use Rattle.admin_text.specs.Statements.{Said, said_by}
-use Rattle.admin_text.specs.Warnings.{AreWarnings, IsOutside, line_warnings, warned, warned_head}
+use Rattle.admin_text.specs.Warnings.{AreWarnings, AreWarningsAmong, AreWarningsBeside, AreWarningsOf, IsOutside, line_warnings, names_line, unnamed, warned, warned_head}
+use Rattle.admin_text.specs.declared.faults.FaultyLine.{FaultyLine}
 use Rattle.admin_text.specs.declared.places.Place.{Place}
 use Rattle.admin_text.specs.declared.statements.Statement.{Statement}
 use Rattle.admin_text.specs.declared.warnings.WarnedLine.{WarnedLine}
 use Rattle.admin_text.specs.declared.warnings.Warning.{Warning}
+use Rattle.admin_text.specs.declared.warnings.Warnings.{Warnings}
 use Rattle.admin_text.proofs.RefusalLaws.{next_lines}
 
 -- ---- one more line
@@ -44,6 +46,35 @@ warnings_on all slashed (first ∷ lines) line place outside found (one, out, mo
       warnings_on all slashed lines line place outside more rest is away,
     )
 
+-- ---- the lines that no fault names
+
+unnamed_last : (named : Bool) (first line : Said) (lines more : List Said) → more ≡ lines ++ line ∷ []
+    → (if named then more else first ∷ more) ≡ (if named then lines else first ∷ lines) ++ line ∷ []
+unnamed_last true first line lines more same = same
+unnamed_last false first line lines more same = ap (λ all. first ∷ all) same
+
+kept_last : (faults : List FaultyLine) (lines : List Said) (line : Said) → names_line faults line.0 ≡ false
+    → unnamed faults (lines ++ line ∷ []) ≡ unnamed faults lines ++ line ∷ []
+kept_last faults [] line other = rw other refl
+kept_last faults (first ∷ lines) line other =
+    unnamed_last (names_line faults first.0) first line (unnamed faults lines) (unnamed faults (lines ++ line ∷ [])) (kept_last faults lines line other)
+
+passed_last : (faults : List FaultyLine) (lines : List Said) (line : Said) → names_line faults line.0 ≡ true
+    → unnamed faults (lines ++ line ∷ []) ≡ unnamed faults lines
+passed_last faults [] line named = rw named refl
+passed_last faults (first ∷ lines) line named =
+    ap (λ (more : List Said). if names_line faults first.0 then more else first ∷ more) (passed_last faults lines line named)
+
+all_unnamed : (lines : List Said) → unnamed [] lines ≡ lines
+all_unnamed [] = refl
+all_unnamed (line ∷ lines) = ap (λ more. line ∷ more) (all_unnamed lines)
+
+pub warned_without : (faults : List FaultyLine) (lines : List Said) (w : Warnings) → faults ≡ [] → AreWarningsBeside faults lines w
+    → AreWarningsOf lines w
+warned_without faults lines w none (inl (few, among)) =
+    subst (λ some. AreWarningsAmong some lines w) (ap (λ found. unnamed found lines) none ∙ all_unnamed lines) among
+warned_without faults lines w none (inr (many, nothing)) = let no : length faults ≡ 0 = ap length none in absurd (omega (arith, no, many))
+
 -- ---- as the code has the lines
 
 pub taken_more : (lines : List Statement) (i : ℕ) (s : Statement) → i < length lines → s ≡ get_or lines i s
@@ -59,16 +90,27 @@ next_places lines i s place found all less is so_far has pushed =
     subst (λ some. ArePlaces some all) (sym (taken_more lines i s less is))
     (subst (ArePlaces (map said_by (take i lines) ++ said_by s ∷ [])) (sym pushed) (places_on (map said_by (take i lines)) (said_by s) place found so_far has))
 
-pub next_warnings : (places : List Place) (slashed : Bool) (lines : List Statement) (i : ℕ) (s : Statement) (place : Option Place)
-    (outside : Option Warning) (found all : List WarnedLine) → i < length lines → s ≡ get_or lines i s
-    → AreWarnings places slashed (map said_by (take i lines)) found → IsPlaceOf (said_by s) place
-    → IsOutside place (map (λ word. word.now) s.words.items) outside
+pub next_warnings : (places : List Place) (slashed : Bool) (faults : List FaultyLine) (lines : List Statement) (i : ℕ) (s : Statement)
+    (place : Option Place) (outside : Option Warning) (found all : List WarnedLine) → i < length lines → s ≡ get_or lines i s
+    → names_line faults s.number ≡ false → AreWarnings places slashed (unnamed faults (map said_by (take i lines))) found
+    → IsPlaceOf (said_by s) place → IsOutside place (map (λ word. word.now) s.words.items) outside
     → all ≡ found ++ warned s.number (line_warnings places slashed place outside (map (λ word. word.now) s.words.items))
-    → AreWarnings places slashed (map said_by (take (i + 1) lines)) all
-next_warnings places slashed lines i s place outside found all less is so_far has away pushed =
-    subst (λ some. AreWarnings places slashed some all) (sym (taken_more lines i s less is))
-    (subst (AreWarnings places slashed (map said_by (take i lines) ++ said_by s ∷ [])) (sym pushed)
-    (warnings_on places slashed (map said_by (take i lines)) (said_by s) place outside found so_far has away))
+    → AreWarnings places slashed (unnamed faults (map said_by (take (i + 1) lines))) all
+next_warnings places slashed faults lines i s place outside found all less is other so_far has away pushed =
+    let before = map said_by (take i lines) in
+    subst (λ some. AreWarnings places slashed some all)
+    (sym (ap (unnamed faults) (taken_more lines i s less is) ∙ kept_last faults before (said_by s) other))
+    (subst (AreWarnings places slashed (unnamed faults before ++ said_by s ∷ [])) (sym pushed)
+    (warnings_on places slashed (unnamed faults before) (said_by s) place outside found so_far has away))
+
+-- a line that a fault names
+pub no_warnings : (places : List Place) (slashed : Bool) (faults : List FaultyLine) (lines : List Statement) (i : ℕ) (s : Statement)
+    (found : List WarnedLine) → i < length lines → s ≡ get_or lines i s → names_line faults s.number ≡ true
+    → AreWarnings places slashed (unnamed faults (map said_by (take i lines))) found
+    → AreWarnings places slashed (unnamed faults (map said_by (take (i + 1) lines))) found
+no_warnings places slashed faults lines i s found less is named so_far =
+    subst (λ some. AreWarnings places slashed some found)
+    (sym (ap (unnamed faults) (taken_more lines i s less is) ∙ passed_last faults (map said_by (take i lines)) (said_by s) named)) so_far
 
 -- ---- the lines that say them
 

@@ -8,7 +8,8 @@ use Rattle.table_types.specs.Rosters.{has_id, has_name}
 use Rattle.admin_text.specs.Addresses.{IsAddress, IsLocal}
 use Rattle.admin_text.specs.Lines.{IsRead}
 use Rattle.admin_text.specs.Readings.{AreRead, IsFirst, IsNoted}
-use Rattle.admin_text.specs.Refusals.{AreFaultsOf, AreLines, head_of}
+use Rattle.admin_text.specs.Refusals.{AreFaultsOf, head_of}
+use Rattle.admin_text.specs.SaidLines.{AreLines}
 use Rattle.admin_text.specs.Peers.{AreNamed, IsLabel, names_of}
 use Rattle.admin_text.specs.Peers.{has_name as has_peer_name}
 use Rattle.admin_text.specs.SoFar.{AreAdded, ComesFrom, HasNeeded, IsAdded, IsFresh, IsSoFar}

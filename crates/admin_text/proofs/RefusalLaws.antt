@@ -7,7 +7,8 @@ use Rattle.std.proofs.lemmas.List.{append-nil, map-append}
 use Rattle.std.proofs.lemmas.List.Folds.{list_all-append}
 use Rattle.admin_text.specs.Lines.{IsRead}
 use Rattle.admin_text.specs.Outcomes.{fault_in}
-use Rattle.admin_text.specs.Refusals.{Adds, AddsPrintable, AreFaultsOf, AreLines, is_printable, lacking_head, listed}
+use Rattle.admin_text.specs.Refusals.{AreFaultsOf, lacking_head, listed}
+use Rattle.admin_text.specs.SaidLines.{Adds, AddsPrintable, AreLines, is_printable}
 use Rattle.admin_text.specs.Statements.{Said}
 use Rattle.admin_text.specs.declared.line_kinds.LineKind.{LineKind}
 use Rattle.admin_text.specs.declared.faults.Fault.{Fault}

@@ -4,7 +4,7 @@ use Rattle.std.specs.Prelude.{◌⊎◌, Contains, if◌then◌else◌}
 use Rattle.std.proofs.lemmas.Bool.{eq-eqb, ne_eqb}
 use Rattle.std.proofs.lemmas.List.{append-nil}
 use Rattle.std.proofs.lemmas.List.Elements.{Contains-append_right}
-use Rattle.admin_text.specs.Statements.{Said, ended, is_blank, lines_of, numbered, onto_first, said_at, statements_of, without_return, words_from, words_of}
+use Rattle.admin_text.specs.Statements.{Said, ended, is_blank, lines_of, numbered, onto_first, said_at, without_return, words_from, words_of}
 
 other_byte : (b byte : ℕ) (bytes : List ℕ) → (Contains (b ∷ bytes) byte → ⊥) → b ≡ byte → ⊥
 other_byte b byte bytes none same = none (0, omega arith, same)
@@ -88,20 +88,20 @@ all_words line rest words none so_far = sym (append-nil words) ∙ ap (λ more. 
 
 -- ---- what the lines of a text say
 
-pub later_lines : (text rest line after : List ℕ) (number : ℕ) (before now : List Said) → rest ≡ line ++ 10 ∷ after → (Contains line 10 → ⊥)
+pub later_lines : (rest line after : List ℕ) (number : ℕ) (before now all : List Said) → rest ≡ line ++ 10 ∷ after → (Contains line 10 → ⊥)
     → now ≡ before ++ said_at number (words_of (without_return line))
-    → before ++ numbered number (ended (lines_of rest)) ≡ statements_of text
-    → now ++ numbered (number + 1) (ended (lines_of after)) ≡ statements_of text
-later_lines text rest line after number before now cut none pushed so_far =
+    → before ++ numbered number (ended (lines_of rest)) ≡ all
+    → now ++ numbered (number + 1) (ended (lines_of after)) ≡ all
+later_lines rest line after number before now all cut none pushed so_far =
     ap (λ said. said ++ numbered (number + 1) (ended (lines_of after))) pushed
     ∙ append_assoc before (said_at number (words_of (without_return line))) (numbered (number + 1) (ended (lines_of after)))
     ∙ ap (λ lines. before ++ numbered number lines) (sym (next_ended rest line after cut none))
     ∙ so_far
 
-pub all_lines : (text rest : List ℕ) (number : ℕ) (before now : List Said) → (Contains rest 10 → ⊥)
+pub all_lines : (rest : List ℕ) (number : ℕ) (before now all : List Said) → (Contains rest 10 → ⊥)
     → now ≡ before ++ said_at number (words_of rest)
-    → before ++ numbered number (ended (lines_of rest)) ≡ statements_of text → now ≡ statements_of text
-all_lines text rest number before now none pushed so_far =
+    → before ++ numbered number (ended (lines_of rest)) ≡ all → now ≡ all
+all_lines rest number before now all none pushed so_far =
     pushed
     ∙ ap (λ said. before ++ said) (sym (append-nil (said_at number (words_of rest))))
     ∙ ap (λ lines. before ++ numbered number lines) (sym (last_ended rest none))

@@ -6,8 +6,8 @@ use Rattle.admin_text.specs.Sockets.{is_path}
 use Rattle.admin_text.specs.TableSettings.{AreTables}
 use Rattle.admin_text.specs.declared.configurations.Configuration.{Configuration}
 
--- node, peers and section have names, no two of node and peers the same; the addresses have ports and no zone, and the one for
--- requests is a loopback address; a socket for requests has a path; there are at most 15 peers, and 1 to 64 tables with distinct ids
+-- node, peers and section have names, no two of node and peers the same; the addresses have ports, no zone, and aren't
+-- link-local, and the one for requests is a loopback address; a socket for requests has a path; there are at most 15 peers, and 1 to 64 tables with distinct ids
 -- and names
 pub record IsConfiguration (c : Configuration) : Type 0 where
   pub named : AreNamed (Some c.node) c.peers.items

@@ -12,6 +12,7 @@ pub mod Peers
 pub mod Places
 pub mod Readings
 pub mod Refusals
+pub mod SaidLines
 pub mod SoFar
 pub mod Sockets
 pub mod Statements

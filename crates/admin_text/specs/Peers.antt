@@ -11,7 +11,7 @@ use Rattle.admin_text.specs.declared.peers.Peer.{Peer}
 abbrev pub IsLabel : List ℕ → Type 0
 IsLabel name = (is_name name ≡ true) × (may_name name ≡ true)
 
--- a peer has such a name, and its address has a port and no zone
+-- a peer has such a name, and its address has a port, no zone, and isn't link-local
 pub record IsPeer (p : Peer) : Type 0 where
   pub name : IsLabel p.name
   pub address : IfSome p.address IsAddress

@@ -1,6 +1,7 @@
 -- What is read of a configuration, line by line (profile).
 use Rattle.std.specs.Prelude.{◌≡◌, ◌≤◌, ◌++◌, ℕ, List, [], ◌∷◌, Result, Ok, Err, length, map}
-use Rattle.admin_text.specs.Refusals.{Adds, AreFaults, AreLines, head_of}
+use Rattle.admin_text.specs.Refusals.{AreFaults, head_of}
+use Rattle.admin_text.specs.SaidLines.{Adds, AreLines}
 use Rattle.admin_text.specs.SoFar.{AreAdded, HasNeeded, IsAdded, IsFresh, IsSoFar}
 use Rattle.admin_text.specs.Statements.{Said}
 use Rattle.admin_text.specs.declared.faults.Fault.{Fault}

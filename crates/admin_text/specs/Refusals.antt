@@ -1,11 +1,12 @@
 -- What is wrong with a configuration, and how it is said (profile).
-use Rattle.std.specs.Prelude.{◌≡◌, ◌⊎◌, ◌++◌, ◌-◌, ◌==◌, ◌&&◌, ℕ, Bool, true, not, List, [], ◌∷◌, Option, Some, None, Result, codes, filter, is_none, length, map, nat_le, take}
+use Rattle.std.specs.Prelude.{◌≡◌, ◌⊎◌, ◌++◌, ◌-◌, ◌==◌, ◌&&◌, ℕ, Bool, not, List, [], ◌∷◌, Option, Some, None, Result, codes, filter, is_none, length, map, take}
 use Rattle.std.specs.Fmt.{decimal}
-use Rattle.std.specs.List.{list_all}
 use Rattle.admin_text.specs.Before.{line_of}
 use Rattle.admin_text.specs.Lines.{IsRead}
 use Rattle.admin_text.specs.Outcomes.{fault_in}
+use Rattle.admin_text.specs.SaidLines.{AreLines}
 use Rattle.admin_text.specs.Statements.{Said}
+use Rattle.admin_text.specs.Warnings.{AreWarningsBeside}
 use Rattle.admin_text.specs.declared.line_kinds.LineKind.{LineKind}
 use Rattle.admin_text.specs.declared.line_kinds.LineKind.TheVariants as kinds
 use Rattle.admin_text.specs.declared.faults.Fault.{Fault}
@@ -47,9 +48,6 @@ lacking_of lines = filter (is_lacking lines) (kinds.Node ∷ kinds.Listen ∷ ki
 
 -- ---- refusals
 
-abbrev pub is_printable : ℕ → Bool
-is_printable byte = nat_le 32 byte && nat_le byte 126
-
 -- what begins the line of a fault, and that of a line that lacks
 abbrev pub head_of : FaultyLine → List ℕ
 head_of line = codes "line " ++ (decimal line.number ++ codes ": ")
@@ -60,29 +58,13 @@ lacking_head kind = codes "configuration: "
 abbrev pub heads_of : List FaultyLine → List LineKind → List (List ℕ)
 heads_of found lacking = map head_of found ++ map lacking_head lacking
 
--- printable bytes come behind what was there
-abbrev pub AddsPrintable : List ℕ → List ℕ → Type 0
-AddsPrintable before after = (sentence : List ℕ) × (after ≡ before ++ sentence) × (list_all is_printable sentence ≡ true)
-
--- a line with this head comes behind what was there
-abbrev pub Adds : List ℕ → List ℕ → List ℕ → Type 0
-Adds head before after =
-    (sentence : List ℕ) × (after ≡ before ++ (head ++ (sentence ++ 10 ∷ []))) × (list_all is_printable sentence ≡ true)
-
--- a line for each of these heads: behind it stand bytes 32 to 126, and LF
-abbrev pub AreLines : List (List ℕ) → List ℕ → Type 0
-AreLines [] text = text ≡ []
-AreLines (head ∷ heads) text =
-    (sentence more : List ℕ)
-    × (text ≡ head ++ (sentence ++ 10 ∷ more))
-    × (list_all is_printable sentence ≡ true)
-    × AreLines heads more
-
--- what the lines lack or have wrong, at most 20 faults with the refused lines first, and a line that says each
+-- what the lines lack or have wrong, at most 20 faults with the refused lines first, and what is warned of beside these; a line says each
+-- fault, and behind them one each warning
 pub record IsRefusalOf (lines : List Said) (r : Refusal) : Type 0 where
   pub faults : AreFaults lines r.faults.items
   pub lacking : r.lacking.items ≡ take (20 - length r.faults.items) (lacking_of lines)
-  pub said : AreLines (heads_of r.faults.items r.lacking.items) r.said.items
+  pub warnings : AreWarningsBeside r.faults.items lines r.warnings
+  pub said : (own : List ℕ) × AreLines (heads_of r.faults.items r.lacking.items) own × (r.said.items ≡ own ++ r.warnings.said.items)
 
 -- some line is refused, or lacks
 abbrev pub names_fault : Refusal → Bool

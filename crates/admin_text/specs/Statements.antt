@@ -1,5 +1,5 @@
 -- The lines of a configuration, and their words (profile).
-use Rattle.std.specs.Prelude.{◌==◌, ◌||◌, ◌+◌, ◌++◌, ℕ, Bool, true, false, List, [], ◌∷◌, map, if◌then◌else◌}
+use Rattle.std.specs.Prelude.{◌==◌, ◌||◌, ◌+◌, ◌++◌, ℕ, Bool, true, false, List, [], ◌∷◌, bytes_eq, drop, map, if◌then◌else◌, take}
 use Rattle.admin_text.specs.declared.statements.Statement.{Statement}
 
 -- ---- the lines of a text
@@ -67,8 +67,16 @@ numbered number [] = []
 numbered number (line ∷ lines) = said_at number (words_of line) ++ numbered (number + 1) lines
 
 -- what the lines of a text say; they count from 1
+abbrev pub said_in : List ℕ → List Said
+said_in text = numbered 1 (ended (lines_of text))
+
+-- a byte order mark
+abbrev pub mark : List ℕ
+mark = 0xef ∷ 0xbb ∷ 0xbf ∷ []
+
+-- what a text says: one that begins with a byte order mark has that in line 1, and then its lines say what they say without it
 abbrev pub statements_of : List ℕ → List Said
-statements_of text = numbered 1 (ended (lines_of text))
+statements_of text = if bytes_eq mark (take 3 text) then (1, mark ∷ []) ∷ said_in (drop 3 text) else said_in text
 
 -- a line as the code has it
 abbrev pub said_by : Statement → Said

@@ -1,7 +1,7 @@
 -- What is legal in a configuration, and surely meant otherwise (profile). HAProxy's times end at 2^31 - 1 ms; the length of its strings is
 -- `len` and one more; the name of a table of a peers section goes over the wire as `/` and its name, and the name of a proxy has no `/`;
 -- a `stick` rule adds both server_id and server_key to its table.
-use Rattle.std.specs.Prelude.{◌≡◌, ◌==◌, ◌&&◌, ◌||◌, ◌+◌, ◌*◌, ◌-◌, ◌/◌, ◌%◌, ◌^◌, ◌++◌, ℕ, Bool, true, false, not, List, [], ◌∷◌, Option, Some, None, Result, Ok, Err, bytes_eq, codes, drop, if◌then◌else◌, is_none, map, nat_lt, option_map, option_to_list, slice_get}
+use Rattle.std.specs.Prelude.{◌≡◌, ◌⊎◌, ◌<◌, ◌≤◌, ◌==◌, ◌&&◌, ◌||◌, ◌+◌, ◌*◌, ◌-◌, ◌/◌, ◌%◌, ◌^◌, ◌++◌, ℕ, Bool, true, false, not, List, [], ◌∷◌, Option, Some, None, Result, Ok, Err, bytes_eq, codes, drop, if◌then◌else◌, is_none, length, map, nat_lt, option_map, option_to_list, slice_get}
 use Rattle.std.specs.Fmt.{decimal}
 use Rattle.std.specs.List.{list_any}
 use Rattle.std.specs.Net.Socket.{socket_ip, socket_port}
@@ -16,10 +16,11 @@ use Rattle.admin_text.specs.LineKinds.{is_of_kind, is_word}
 use Rattle.admin_text.specs.Networks.{address_bits, may_come}
 use Rattle.admin_text.specs.PeerLines.{AreNetworks, networks_part, source_part}
 use Rattle.admin_text.specs.Places.{ArePlaces, IsPlaceOf}
-use Rattle.admin_text.specs.Refusals.{AreLines}
+use Rattle.admin_text.specs.SaidLines.{AreLines}
 use Rattle.admin_text.specs.Statements.{Said}
 use Rattle.admin_text.specs.TableLines.{period_part}
 use Rattle.admin_text.specs.declared.faults.Fault.{Fault}
+use Rattle.admin_text.specs.declared.faults.FaultyLine.{FaultyLine}
 use Rattle.admin_text.specs.declared.line_kinds.LineKind.TheVariants as kinds
 use Rattle.admin_text.specs.declared.networks.Network.{Network}
 use Rattle.admin_text.specs.declared.places.Place.{Place}
@@ -141,12 +142,16 @@ begins_slash None = false
 begins_slash (Some []) = false
 begins_slash (Some (byte ∷ name)) = byte == 47
 
--- the line gives a table of a peers section
+-- the line gives a table of a peers section, maybe without an id, which is a fault
 abbrev pub gives_section_table : List (List ℕ) → Bool
-gives_section_table words = is_of_kind kinds.Table words && begins_slash (slice_get words 2)
+gives_section_table words = is_of_kind kinds.Table words && (begins_slash (slice_get words 1) || begins_slash (slice_get words 2))
 
 abbrev pub has_section_table : List Said → Bool
 has_section_table lines = list_any (λ line. gives_section_table line.1) lines
+
+-- a table of a peers section may be there: one is, or there is no table, which is a fault
+abbrev pub may_use_section : List Said → Bool
+may_use_section lines = is_none (line_of kinds.Table lines) || has_section_table lines
 
 -- the section's name stands before the name of no table
 abbrev pub section_warning : Bool → List (List ℕ) → Option Warning
@@ -251,8 +256,36 @@ abbrev pub peers_heads : Bool → List (List ℕ)
 peers_heads true = codes "configuration: warning: " ∷ []
 peers_heads false = []
 
--- what is warned of in these lines, and a line that says each: of lines that have something, and behind them, that there are no peers
-pub record AreWarningsOf (lines : List Said) (w : Warnings) : Type 0 where
-  pub lines_warned : (all : List Place) × ArePlaces lines all × AreWarnings all (has_section_table lines) lines w.lines.items
+-- what is warned of in some of these lines, and a line that says each: of lines that have something, and behind them, that there are no
+-- peers
+pub record AreWarningsAmong (some lines : List Said) (w : Warnings) : Type 0 where
+  pub lines_warned : (all : List Place) × ArePlaces lines all × AreWarnings all (may_use_section lines) some w.lines.items
   pub no_peers : w.no_peers ≡ is_none (line_of kinds.Peer lines)
   pub said : AreLines (map warned_head w.lines.items ++ peers_heads w.no_peers) w.said.items
+
+-- what is warned of in these lines
+abbrev pub AreWarningsOf : List Said → Warnings → Type 0
+AreWarningsOf lines w = AreWarningsAmong lines lines w
+
+-- ---- beside faults
+
+-- nothing is warned of
+pub record AreNoWarnings (w : Warnings) : Type 0 where
+  pub no_lines : w.lines.items ≡ []
+  pub no_peers : w.no_peers ≡ false
+  pub said : w.said.items ≡ []
+
+-- one of these faults is that of the line with this number
+abbrev pub names_line : List FaultyLine → ℕ → Bool
+names_line found number = list_any (λ faulty. faulty.number == number) found
+
+-- the lines that none of these faults names
+abbrev pub unnamed : List FaultyLine → List Said → List Said
+unnamed found [] = []
+unnamed found (line ∷ lines) = if names_line found line.0 then unnamed found lines else line ∷ unnamed found lines
+
+-- what is warned of beside these faults: the lines that none of them names get the warnings that they get without any; of 20 faults,
+-- behind which no line is looked at, there are none
+abbrev pub AreWarningsBeside : List FaultyLine → List Said → Warnings → Type 0
+AreWarningsBeside found lines w =
+    ((length found < 20) × AreWarningsAmong (unnamed found lines) lines w) ⊎ ((20 ≤ length found) × AreNoWarnings w)

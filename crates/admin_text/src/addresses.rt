@@ -1,8 +1,8 @@
 //! Addresses with ports.
-ghost use Rattle.std.specs.Prelude.{◌≡◌, ◌∷◌, ◌++◌, [], ℕ, List, Contains, MatchOption};
+ghost use Rattle.std.specs.Prelude.{◌≡◌, ◌↔◌, ◌∷◌, ◌++◌, [], ℕ, List, Contains, IsTrue, MatchOption};
 ghost use Rattle.std.specs.declared.net.ip_addr.IpAddr.{IpAddr};
 ghost use Rattle.std.specs.declared.net.socket_addr.SocketAddr.{SocketAddr};
-ghost use Rattle.admin_text.specs.Addresses.{IsAddressText, IsHostText};
+ghost use Rattle.admin_text.specs.Addresses.{IsAddressText, IsHostText, IsLinkLocal};
 
 use node_text::number_from_one;
 use std::net::{IpAddr, Ipv4Addr, Ipv6Addr, SocketAddr};
@@ -10,14 +10,28 @@ use std::net::{IpAddr, Ipv4Addr, Ipv6Addr, SocketAddr};
 /// The last port.
 const LAST_PORT: u32 = 65_535;
 
-/// Reads an address `A.B.C.D:PORT`, or `[IPv6]:PORT` without a zone. The port is from 1.
+/// Reads an address `A.B.C.D:PORT`, or `[IPv6]:PORT` without a zone and not of fe80::/10, which needs one. The port is from 1.
 pub fn address_of(word: &[u8]) -> Option<SocketAddr>
     ensures { MatchOption result ((address : SocketAddr) → IsAddressText word.now address → ⊥) (IsAddressText word.now) }
 {
     let (host, port) = cut_last(word, b':')?;
     let host = host_of(host)?;
     let port = number_from_one(port, LAST_PORT)?;
-    Some(SocketAddr::new(host, port as u16))
+    if is_link_local(&host) {
+        None
+    } else {
+        Some(SocketAddr::new(host, port as u16))
+    }
+}
+
+/// Returns whether this is an address of fe80::/10.
+fn is_link_local(ip: &IpAddr) -> bool
+    ensures { IsTrue result ↔ IsLinkLocal ip.now }
+{
+    match ip {
+        IpAddr::V4(_) => false,
+        IpAddr::V6(ip) => ip.is_unicast_link_local(),
+    }
 }
 
 /// Reads an IPv4 address, or an IPv6 address in brackets.

@@ -13,7 +13,7 @@ use crate::peers::Peer;
 use crate::readings::configuration_of;
 use crate::statements::statements_of;
 use crate::table_settings::TableSetting;
-use crate::warnings::{Warnings, warnings_of};
+use crate::warnings::Warnings;
 use std::alloc::Global;
 use std::net::SocketAddr;
 use table_types::Name;
@@ -54,8 +54,8 @@ pub fn read_configuration(alloc: Global, text: &[u8]) -> Result<Configuration, C
     ensures refused { (refusal : Refusal) → result ≡ Err (ConfigurationError.Refused refusal) → IsRefusalOf (statements_of text.now) refusal }
     ensures faulty { (refusal : Refusal) → result ≡ Err (ConfigurationError.Refused refusal) → names_fault refusal ≡ true }
 {
-    let lines = statements_of(alloc, text)?;
-    configuration_of(alloc, lines.as_slice())
+    let (configuration, _) = checked_configuration(alloc, text)?;
+    Ok(configuration)
 }
 
 /// Reads a configuration, and returns what in it is legal and surely meant otherwise, too.
@@ -72,6 +72,5 @@ pub fn checked_configuration(
     ensures faulty { (refusal : Refusal) → result ≡ Err (ConfigurationError.Refused refusal) → names_fault refusal ≡ true }
 {
     let lines = statements_of(alloc, text)?;
-    let configuration = configuration_of(alloc, lines.as_slice())?;
-    Ok((configuration, warnings_of(alloc, lines.as_slice())?))
+    configuration_of(alloc, lines.as_slice())
 }

@@ -3,6 +3,9 @@
 use crate::line_kinds::LineKind;
 use table_types::KeyKind;
 
+/// The most faults that are named.
+pub(crate) const MOST_FAULTS: usize = 20;
+
 /// What is wrong with a line. A place is the index of a word in its line, and a line is given by its number.
 #[derive(Clone, Copy, Debug, PartialEq, Eq)]
 pub enum Fault {

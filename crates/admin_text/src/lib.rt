@@ -1,12 +1,14 @@
 //! The text of a node that stays: its configuration, as it is read, and what is wrong with one.
 #![tactic(auto)]
 
+mod address_sentences;
 mod address_warnings;
 mod addresses;
 mod before;
 mod configurations;
 mod error;
 mod faults;
+mod keyword_sentences;
 mod line_kinds;
 mod line_refusals;
 mod lines;
@@ -23,14 +25,18 @@ mod said_lines;
 mod section_warnings;
 mod sentences;
 mod settings;
+mod shown_words;
 mod so_far;
 mod socket_paths;
 mod statements;
 mod table_lines;
+mod table_sentences;
 mod table_settings;
 mod table_warnings;
+mod type_sentences;
 mod type_words;
 mod warnings;
+mod written_units;
 
 pub use addresses::address_of;
 pub use configurations::{Configuration, checked_configuration, read_configuration};

@@ -6,23 +6,23 @@ ghost use Rattle.admin_text.specs.Readings.{AreRead, IsFirst, IsNoted};
 ghost use Rattle.admin_text.specs.Refusals.{IsFaultless, IsRefusalOf, names_fault};
 ghost use Rattle.admin_text.specs.SoFar.{IsSaidBy};
 ghost use Rattle.admin_text.specs.Statements.{said_by};
+ghost use Rattle.admin_text.specs.Warnings.{AreWarningsOf};
 ghost use Rattle.admin_text.specs.declared.faults.Fault.{Fault};
 ghost use Rattle.admin_text.specs.declared.refusals.Refusal.{Refusal};
 ghost use Rattle.admin_text.specs.declared.settings.Setting.{Setting};
 
 use crate::configurations::Configuration;
 use crate::error::ConfigurationError;
-use crate::faults::FaultyLine;
+use crate::faults::{FaultyLine, MOST_FAULTS};
 use crate::line_refusals::LineRefusal;
 use crate::lines::read_line;
 use crate::refusals::{Refusal, lacking_of, push_fault, push_lacking};
+use crate::said_lines::push_lines;
 use crate::so_far::ConfigurationSoFar;
 use crate::statements::Statement;
+use crate::warnings::{Warnings, warnings_beside};
 use std::alloc::Global;
 use table_types::Memory;
-
-/// The most faults that are named.
-const MOST_FAULTS: usize = 20;
 
 /// What was read of a configuration.
 #[derive(Drop)]
@@ -70,15 +70,16 @@ impl Reading {
         }
     }
 
-    /// Returns the configuration of these lines, which were read up to the twentieth fault, or what is wrong with them.
+    /// Returns the configuration of these lines, which were read up to the twentieth fault, with its warnings, or what is wrong with them.
     fn finish(
         self,
         alloc: Global,
         lines: &[Statement<'_>],
-    ) -> Result<Configuration, ConfigurationError>
+    ) -> Result<(Configuration, Warnings), ConfigurationError>
         requires { AreRead (map said_by lines.now) self }
-        ensures configuration { IfOk result IsConfiguration }
-        ensures said { IfOk result (IsSaidBy (map said_by lines.now)) }
+        ensures configuration { IfOk result (λ read. IsConfiguration read.0) }
+        ensures said { IfOk result (λ read. IsSaidBy (map said_by lines.now) read.0) }
+        ensures warned { IfOk result (λ read. AreWarningsOf (map said_by lines.now) read.1) }
         ensures taken { IsFaultless (map said_by lines.now) → IfErr result (λ error. error ≡ ConfigurationError.Memory) }
         ensures faultless { OnOk result (IsFaultless (map said_by lines.now)) }
         ensures refused { (refusal : Refusal) → result ≡ Err (ConfigurationError.Refused refusal) → IsRefusalOf (map said_by lines.now) refusal }
@@ -91,16 +92,19 @@ impl Reading {
         } = self;
         let lacking = lacking_of(alloc, lines, MOST_FAULTS - faults.len())?;
         push_lacking(&mut said, lacking.as_slice())?;
+        let warnings = warnings_beside(alloc, faults.as_slice(), lines)?;
+        push_lines(&mut said, warnings.said.as_slice())?;
         let refusal = Refusal {
             faults,
             lacking,
+            warnings,
             said,
         };
         if refusal.names_fault() {
             return Err(ConfigurationError::Refused(refusal));
         }
         match so_far.whole() {
-            Some(configuration) => Ok(configuration),
+            Some(configuration) => Ok((configuration, refusal.warnings)),
             None => unreachable!(),
         }
     }
@@ -120,13 +124,14 @@ fn read_lines(alloc: Global, lines: &[Statement<'_>]) -> Result<Reading, Memory>
     Ok(reading)
 }
 
-/// Returns the configuration that these lines make, or what is wrong with them.
+/// Returns the configuration that these lines make, with its warnings, or what is wrong with them.
 pub(crate) fn configuration_of(
     alloc: Global,
     lines: &[Statement<'_>],
-) -> Result<Configuration, ConfigurationError>
-    ensures configuration { IfOk result IsConfiguration }
-    ensures said { IfOk result (IsSaidBy (map said_by lines.now)) }
+) -> Result<(Configuration, Warnings), ConfigurationError>
+    ensures configuration { IfOk result (λ read. IsConfiguration read.0) }
+    ensures said { IfOk result (λ read. IsSaidBy (map said_by lines.now) read.0) }
+    ensures warned { IfOk result (λ read. AreWarningsOf (map said_by lines.now) read.1) }
     ensures taken { IsFaultless (map said_by lines.now) → IfErr result (λ error. error ≡ ConfigurationError.Memory) }
     ensures faultless { OnOk result (IsFaultless (map said_by lines.now)) }
     ensures refused { (refusal : Refusal) → result ≡ Err (ConfigurationError.Refused refusal) → IsRefusalOf (map said_by lines.now) refusal }

@@ -1,6 +1,7 @@
 //! What is wrong with a configuration, line by line.
 ghost use Rattle.std.specs.Prelude.{◌≡◌, ◌∷◌, ◌++◌, ℕ, List, [], IfOk, OnOk, map, take, true};
-ghost use Rattle.admin_text.specs.Refusals.{Adds, AreLines, head_of, is_lacking, lacking_head, lacking_of, names_fault};
+ghost use Rattle.admin_text.specs.Refusals.{head_of, is_lacking, lacking_head, lacking_of, names_fault};
+ghost use Rattle.admin_text.specs.SaidLines.{Adds, AreLines};
 ghost use Rattle.admin_text.specs.Statements.{said_by};
 
 use crate::before::line_of;
@@ -9,20 +10,23 @@ use crate::line_kinds::LineKind;
 use crate::said_lines::{push_line, push_numbered};
 use crate::sentences::{lacking_sentence, sentence};
 use crate::statements::Statement;
+use crate::warnings::Warnings;
 use std::alloc::Global;
 use table_types::Memory;
 
 /// What a configuration without one of these lines lacks.
 const NEEDED: [LineKind; 3] = [LineKind::Node, LineKind::Listen, LineKind::Table];
 
-/// What is wrong with a configuration: at most 20 faults.
+/// What is wrong with a configuration, at most 20 faults, and what is surely meant otherwise in the lines that aren't refused.
 #[derive(Debug, Drop)]
 pub struct Refusal {
     /// The lines that are refused, in order.
     pub faults: Vec<FaultyLine>,
     /// The kinds of lines that lack.
     pub lacking: Vec<LineKind>,
-    /// A line for each of these faults that says what is wanted, in bytes 32 to 126.
+    /// The warnings of the other lines; none beside 20 lines that are refused.
+    pub warnings: Warnings,
+    /// A line for each of these faults that says what is wanted, in bytes 32 to 126, and behind them the lines of the warnings.
     pub said: Vec<u8>,
 }
 

@@ -1,7 +1,7 @@
 //! Lines that say something to operators.
 ghost use Rattle.std.specs.Prelude.{◌≡◌, ◌++◌, OnOk, codes, true};
 ghost use Rattle.std.specs.Fmt.{decimal};
-ghost use Rattle.admin_text.specs.Refusals.{Adds, AddsPrintable, is_printable};
+ghost use Rattle.admin_text.specs.SaidLines.{Adds, AddsPrintable, is_printable};
 
 use node_text::push_word_and_number;
 use table_types::Memory;
@@ -26,6 +26,14 @@ pub(crate) fn push_line(text: &mut Vec<u8>, head: &str, sentence: &str) -> Resul
     text.extend_from_slice(head.as_bytes())?;
     push_printable(text, sentence.as_bytes())?;
     text.push(b'\n')?;
+    Ok(())
+}
+
+/// Appends lines that are there already.
+pub(crate) fn push_lines(text: &mut Vec<u8>, lines: &[u8]) -> Result<(), Memory>
+    ensures { OnOk result (text.new.items ≡ text.old.items ++ lines.now) }
+{
+    text.extend_from_slice(lines)?;
     Ok(())
 }
 

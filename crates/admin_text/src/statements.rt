@@ -1,10 +1,16 @@
 //! The lines of a configuration that say something, and their words.
 ghost use Rattle.std.specs.Prelude.{◌≡◌, ◌∷◌, ◌++◌, ◌<◌, ◌≤◌, [], IfOk, IfSome, MatchOption, OnOk, drop, false, length, map, take, true};
-ghost use Rattle.admin_text.specs.Statements.{begins_blank, is_blank, said_at, said_by, statements_of, without_return, words_from, words_of};
+ghost use Rattle.admin_text.specs.Statements.{begins_blank, is_blank, said_at, said_by, said_in, statements_of, without_return, words_from, words_of};
 
 use node_text::cut;
 use std::alloc::Global;
 use table_types::Memory;
+
+/// The bytes with which some editors begin a file.
+pub(crate) const BYTE_ORDER_MARK: &[u8] = b"\xef\xbb\xbf";
+
+/// The number of its bytes.
+const MARK_LENGTH: usize = 3;
 
 /// A line that says something.
 #[derive(Debug, Drop)]
@@ -15,20 +21,49 @@ pub(crate) struct Statement<'a> {
     pub words: Vec<&'a [u8]>,
 }
 
-/// Returns what the lines of `text` say, in order. Each ends with LF, before which a CR may stand; the last may lack both.
+/// Returns what the lines of `text` say, in order. Each ends with LF, before which a CR may stand; the last may lack both. A byte order
+/// mark that begins the text counts as a line of its own.
 pub(crate) fn statements_of<'a>(alloc: Global, text: &'a [u8]) -> Result<Vec<Statement<'a>>, Memory>
     ensures { IfOk result (λ statements. map said_by statements.items ≡ statements_of text.now) }
 {
     let mut statements = Vec::new(alloc);
+    if text.starts_with(BYTE_ORDER_MARK) {
+        push_statement(alloc, &mut statements, 1, BYTE_ORDER_MARK)?;
+        push_lines(alloc, &mut statements, behind_mark(text))?;
+    } else {
+        push_lines(alloc, &mut statements, text)?;
+    }
+    Ok(statements)
+}
+
+/// Returns `text` without its first three bytes.
+fn behind_mark(text: &[u8]) -> &[u8]
+    ensures { result.now ≡ drop 3 text.now }
+{
+    if text.len() < MARK_LENGTH {
+        &[]
+    } else {
+        &text[MARK_LENGTH..]
+    }
+}
+
+/// Appends what the lines of `text` say.
+fn push_lines<'a>(
+    alloc: Global,
+    statements: &mut Vec<Statement<'a>>,
+    text: &'a [u8],
+) -> Result<(), Memory>
+    ensures { OnOk result (map said_by statements.new.items ≡ map said_by statements.old.items ++ said_in text.now) }
+{
     let mut rest = text;
     let mut number = 1;
     while let Some((line, after)) = cut(rest, b'\n') {
-        push_statement(alloc, &mut statements, number, without_return(line))?;
+        push_statement(alloc, statements, number, without_return(line))?;
         rest = after;
         number += 1;
     }
-    push_statement(alloc, &mut statements, number, rest)?;
-    Ok(statements)
+    push_statement(alloc, statements, number, rest)?;
+    Ok(())
 }
 
 /// Appends what the line says, unless it has no words.

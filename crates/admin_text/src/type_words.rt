@@ -90,7 +90,7 @@ fn stores(entries: &[(DataType, Option<u32>)], data_type: DataType) -> bool
 }
 
 /// Returns what comes before the first `:` of `word`, or all of it.
-fn name_part(word: &[u8]) -> &[u8]
+pub(crate) fn name_part(word: &[u8]) -> &[u8]
     ensures { result.now ≡ name_part word.now }
 {
     match cut(word, b':') {

@@ -2,19 +2,20 @@
 ghost use Rattle.std.specs.Prelude.{◌≡◌, ◌++◌, Option, IfOk, OnOk, is_none, map, option_to_list};
 ghost use Rattle.admin_text.specs.Before.{line_of};
 ghost use Rattle.admin_text.specs.Places.{IsPlaceOf};
-ghost use Rattle.admin_text.specs.Refusals.{AreLines};
+ghost use Rattle.admin_text.specs.SaidLines.{AreLines};
 ghost use Rattle.admin_text.specs.Statements.{said_by};
-ghost use Rattle.admin_text.specs.Warnings.{AreWarningsOf, IsOutside, line_warnings, peers_heads, table_warnings, warned, warned_head};
+ghost use Rattle.admin_text.specs.Warnings.{AreNoWarnings, AreWarningsAmong, AreWarningsBeside, IsOutside, line_warnings, names_line, peers_heads, table_warnings, unnamed, warned, warned_head};
 ghost use Rattle.admin_text.specs.declared.line_kinds.LineKind.TheVariants as kinds;
 ghost use Rattle.admin_text.specs.declared.places.Place.{Place};
 ghost use Rattle.admin_text.specs.declared.warnings.Warning.{Warning};
 
 use crate::address_warnings::{outside_warning_of, place_warning};
 use crate::before::line_of;
+use crate::faults::{FaultyLine, MOST_FAULTS};
 use crate::line_kinds::LineKind;
 use crate::places::{Place, place_of, places_of};
 use crate::said_lines::{push_line, push_numbered};
-use crate::section_warnings::{has_section_table, section_warning};
+use crate::section_warnings::{may_use_section, section_warning};
 use crate::sentences::warning_sentence;
 use crate::statements::Statement;
 use crate::table_warnings::{
@@ -71,6 +72,17 @@ pub struct Warnings {
 }
 
 impl Warnings {
+    /// Returns that there is none.
+    fn none(alloc: Global) -> Warnings
+        ensures { AreNoWarnings result }
+    {
+        Warnings {
+            lines: Vec::new(alloc),
+            no_peers: false,
+            said: Vec::new(alloc),
+        }
+    }
+
     /// Notes the warnings of a line, if all addresses are these, and `some` says whether a table is one of a peers section.
     fn note_line(
         &mut self,
@@ -144,20 +156,49 @@ impl Warnings {
 const NO_PEERS: &str =
     "no line \"peer NAME ..\" names a peer, so the tables are shared with nobody";
 
-/// Returns what is legal in these lines, and surely meant otherwise.
-pub(crate) fn warnings_of(alloc: Global, lines: &[Statement<'_>]) -> Result<Warnings, Memory>
-    ensures { IfOk result (AreWarningsOf (map said_by lines.now)) }
+/// Returns what is legal in these lines, and surely meant otherwise: in those that none of these faults names, if there are fewer than 20.
+pub(crate) fn warnings_beside(
+    alloc: Global,
+    faults: &[FaultyLine],
+    lines: &[Statement<'_>],
+) -> Result<Warnings, Memory>
+    ensures { IfOk result (AreWarningsBeside faults.now (map said_by lines.now)) }
+{
+    if faults.len() < MOST_FAULTS {
+        warnings_among(alloc, faults, lines)
+    } else {
+        Ok(Warnings::none(alloc))
+    }
+}
+
+/// Returns what is legal in these lines, and surely meant otherwise, in those that none of these faults names.
+fn warnings_among(
+    alloc: Global,
+    faults: &[FaultyLine],
+    lines: &[Statement<'_>],
+) -> Result<Warnings, Memory>
+    ensures { IfOk result (AreWarningsAmong (unnamed faults.now (map said_by lines.now)) (map said_by lines.now)) }
 {
     let all = places_of(alloc, lines)?;
-    let some = has_section_table(lines);
-    let mut warnings = Warnings {
-        lines: Vec::new(alloc),
-        no_peers: false,
-        said: Vec::new(alloc),
-    };
+    let some = may_use_section(lines);
+    let mut warnings = Warnings::none(alloc);
     for line in lines {
-        warnings.note_line(alloc, all.as_slice(), some, line)?;
+        if !names_line(faults, line.number) {
+            warnings.note_line(alloc, all.as_slice(), some, line)?;
+        }
     }
     warnings.note_peers(lines)?;
     Ok(warnings)
+}
+
+/// Returns whether one of the faults is that of the line with this number.
+fn names_line(faults: &[FaultyLine], number: usize) -> bool
+    ensures { result ≡ names_line faults.now number }
+{
+    for faulty in faults {
+        if faulty.number == number {
+            return true;
+        }
+    }
+    false
 }

@@ -9,9 +9,10 @@ use Rattle.session_core.specs.Phases as phases
 use Rattle.session_core.specs.Courses.{state_of_course}
 use Rattle.session_core.specs.Keeping.{KeptSession, Steps}
 use Rattle.session_core.specs.Sessions.{is_asked, state_of}
+use Rattle.session_core.specs.Hearing.{asked_in}
 use Rattle.session_core.proofs.KeepingLaws.{step_asked}
 use Rattle.table_shards.specs.Receipts.{SeatState}
-use Rattle.peers_engine.specs.Acting.{Acts, DoneBy, IsGiven, IsGivenIn, Worker, asked, stands}
+use Rattle.peers_engine.specs.Acting.{Acts, DoneBy, IsGiven, IsGivenIn, Worker, stands}
 
 pub acts_on : (s mid e : Worker) (before after : List Action) (answers more : List (Event × List Action)) (out rest : List ℕ)
     → Acts s before answers out mid → Acts mid after more rest e → Acts s (before ++ after) (answers ++ more) (out ++ rest) e
@@ -59,6 +60,6 @@ given_some s e now answer event acts is taken =
 -- an answer is received
 pub given_steps : (s e : KeptSession) (now : ℕ) (answer : Option Event) (event : Event) (old new : List Action) → answer ≡ Some event
     → ((acts : List Action) × Steps s now event acts e × (new ≡ old ++ acts))
-    → (steps : List (Event × List Action)) × IsGiven s now answer steps e × (new ≡ old ++ asked steps)
+    → (steps : List (Event × List Action)) × IsGiven s now answer steps e × (new ≡ old ++ asked_in steps)
 given_steps s e now answer event old new is (acts, taken, kept) =
     ((event, acts) ∷ [], given_some s e now answer event acts is taken, kept ∙ ap (λ (x : List Action). old ++ x) (sym (append-nil acts)))

@@ -31,9 +31,10 @@ use Rattle.session_core.specs.Paces.{Pace, inferred, is_ahead}
 use Rattle.session_core.specs.Keeping.{KeptSession, Steps, StepsAs, is_staying, standing}
 use Rattle.session_core.specs.Sessions.{SessionState, FinishesResync, GoesIn, GoesOpen, HasNothing, Settles, StartsPendingResync, state_of}
 use Rattle.session_core.specs.Standing.{StandingState, Stands, TicksIn, Writes, answer_of_refusal, finished_if, heartbeats, leaving, reopening, without_tables, word_of}
+use Rattle.session_core.specs.Hearing.{asked_in}
 use Rattle.peers_engine.specs.Calls.{IsCopied}
 use Rattle.peers_engine.specs.Doing.{Done}
-use Rattle.peers_engine.specs.Acting.{Acts, IsGiven, IsGivenIn, Worker, asked, stands}
+use Rattle.peers_engine.specs.Acting.{Acts, IsGiven, IsGivenIn, Worker, stands}
 
 -- ---- kinds of actions
 
@@ -299,10 +300,10 @@ is_answered None = true
 is_answered (Some event) = is_answer event
 
 abbrev WasGiven : KeptSession → ℕ → Event → List (Event × List Action) → KeptSession → Type 0
-WasGiven s now event steps e = (steps ≡ []) ⊎ ((acts : List Action) × Steps s now event acts e × (asked steps ≡ acts))
+WasGiven s now event steps e = (steps ≡ []) ⊎ ((acts : List Action) × Steps s now event acts e × (asked_in steps ≡ acts))
 
 one_given : (s : KeptSession) (now : ℕ) (event : Event) (steps : List (Event × List Action)) (e : KeptSession) → ((acts : List Action) × Steps s now event acts e × (steps ≡ (event, acts) ∷ [])) → WasGiven s now event steps e
-one_given s now event steps e (acts, steps1, is) = inr (acts, steps1, ap asked is ∙ append-nil acts)
+one_given s now event steps e (acts, steps1, is) = inr (acts, steps1, ap asked_in is ∙ append-nil acts)
 
 given_as : (state : State) (s : KeptSession) (now : ℕ) (event : Event) (steps : List (Event × List Action)) (e : KeptSession) → IsGivenIn state s now event steps e → WasGiven s now event steps e
 given_as states.Ended s now event steps e given = inl given.0
@@ -314,32 +315,32 @@ given_as states.Teaching s now event steps e given = one_given s now event steps
 was_given : (s : KeptSession) (now : ℕ) (event : Event) (steps : List (Event × List Action)) (e : KeptSession) → IsGiven s now (Some event) steps e → WasGiven s now event steps e
 was_given s now event steps e given = given_as (state_of s.session.phase) s now event steps e given
 
-asks_none : (p : Action → Bool) (steps : List (Event × List Action)) → steps ≡ [] → list_all p (asked steps) ≡ true
-asks_none p steps none = ap (λ (x : List (Event × List Action)). list_all p (asked x)) none
+asks_none : (p : Action → Bool) (steps : List (Event × List Action)) → steps ≡ [] → list_all p (asked_in steps) ≡ true
+asks_none p steps none = ap (λ (x : List (Event × List Action)). list_all p (asked_in x)) none
 
-given_mute : (s : KeptSession) (now : ℕ) (answer : Option Event) (steps : List (Event × List Action)) (e : KeptSession) → is_mild_answer answer ≡ true → IsGiven s now answer steps e → are_mute (asked steps) ≡ true
+given_mute : (s : KeptSession) (now : ℕ) (answer : Option Event) (steps : List (Event × List Action)) (e : KeptSession) → is_mild_answer answer ≡ true → IsGiven s now answer steps e → are_mute (asked_in steps) ≡ true
 given_mute s now None steps e mild (none, same) = asks_none is_mute steps none
 given_mute s now (Some event) steps e mild given = elim (was_given s now event steps e given) [
   | inl none ↦ asks_none is_mute steps none
-  | inr one ↦ are_at is_mute (asked steps) one.0 one.2 (steps_mute s.manner s now event one.0 e mild one.1.0)
+  | inr one ↦ are_at is_mute (asked_in steps) one.0 one.2 (steps_mute s.manner s now event one.0 e mild one.1.0)
 ]
 
-given_light : (s : KeptSession) (now : ℕ) (answer : Option Event) (steps : List (Event × List Action)) (e : KeptSession) → is_late_answer answer ≡ true → IsGiven s now answer steps e → are_light (asked steps) ≡ true
+given_light : (s : KeptSession) (now : ℕ) (answer : Option Event) (steps : List (Event × List Action)) (e : KeptSession) → is_late_answer answer ≡ true → IsGiven s now answer steps e → are_light (asked_in steps) ≡ true
 given_light s now (Some (events.Written known)) steps e late given = elim (was_given s now (events.Written known) steps e given) [
   | inl none ↦ asks_none is_light steps none
-  | inr one ↦ are_at is_light (asked steps) one.0 one.2 (steps_light s.manner s now known one.0 e one.1.0)
+  | inr one ↦ are_at is_light (asked_in steps) one.0 one.2 (steps_light s.manner s now known one.0 e one.1.0)
 ]
-given_light s now None steps e late given = light (asked steps) (given_mute s now None steps e late given)
-given_light s now (Some events.Opened) steps e late given = light (asked steps) (given_mute s now (Some events.Opened) steps e late given)
-given_light s now (Some events.End) steps e late given = light (asked steps) (given_mute s now (Some events.End) steps e late given)
-given_light s now (Some events.CaughtUp) steps e late given = light (asked steps) (given_mute s now (Some events.CaughtUp) steps e late given)
-given_light s now (Some events.Ask) steps e late given = light (asked steps) (given_mute s now (Some events.Ask) steps e late given)
-given_light s now (Some events.Tick) steps e late given = light (asked steps) (given_mute s now (Some events.Tick) steps e late given)
-given_light s now (Some events.ReadFault) steps e late given = light (asked steps) (given_mute s now (Some events.ReadFault) steps e late given)
-given_light s now (Some events.WriteFault) steps e late given = light (asked steps) (given_mute s now (Some events.WriteFault) steps e late given)
-given_light s now (Some (events.Nothing table)) steps e late given = light (asked steps) (given_mute s now (Some (events.Nothing table)) steps e late given)
-given_light s now (Some (events.Settled table settled)) steps e late given = light (asked steps) (given_mute s now (Some (events.Settled table settled)) steps e late given)
-given_light s now (Some (events.Refused table)) steps e late given = light (asked steps) (given_mute s now (Some (events.Refused table)) steps e late given)
+given_light s now None steps e late given = light (asked_in steps) (given_mute s now None steps e late given)
+given_light s now (Some events.Opened) steps e late given = light (asked_in steps) (given_mute s now (Some events.Opened) steps e late given)
+given_light s now (Some events.End) steps e late given = light (asked_in steps) (given_mute s now (Some events.End) steps e late given)
+given_light s now (Some events.CaughtUp) steps e late given = light (asked_in steps) (given_mute s now (Some events.CaughtUp) steps e late given)
+given_light s now (Some events.Ask) steps e late given = light (asked_in steps) (given_mute s now (Some events.Ask) steps e late given)
+given_light s now (Some events.Tick) steps e late given = light (asked_in steps) (given_mute s now (Some events.Tick) steps e late given)
+given_light s now (Some events.ReadFault) steps e late given = light (asked_in steps) (given_mute s now (Some events.ReadFault) steps e late given)
+given_light s now (Some events.WriteFault) steps e late given = light (asked_in steps) (given_mute s now (Some events.WriteFault) steps e late given)
+given_light s now (Some (events.Nothing table)) steps e late given = light (asked_in steps) (given_mute s now (Some (events.Nothing table)) steps e late given)
+given_light s now (Some (events.Settled table settled)) steps e late given = light (asked_in steps) (given_mute s now (Some (events.Settled table settled)) steps e late given)
+given_light s now (Some (events.Refused table)) steps e late given = light (asked_in steps) (given_mute s now (Some (events.Refused table)) steps e late given)
 given_light s now (Some (events.Bytes bytes)) steps e late given = absurd (false≢true late)
 given_light s now (Some events.Turn) steps e late given = absurd (false≢true late)
 given_light s now (Some (events.Copied table batch)) steps e late given = absurd (false≢true late)
@@ -360,11 +361,11 @@ answer_fair s now events.Tick acts e is taken = absurd (false≢true is)
 answer_fair s now events.ReadFault acts e is taken = absurd (false≢true is)
 answer_fair s now events.WriteFault acts e is taken = absurd (false≢true is)
 
-given_fair : (s : KeptSession) (now : ℕ) (answer : Option Event) (steps : List (Event × List Action)) (e : KeptSession) → is_answered answer ≡ true → IsGiven s now answer steps e → are_fair (asked steps) ≡ true
+given_fair : (s : KeptSession) (now : ℕ) (answer : Option Event) (steps : List (Event × List Action)) (e : KeptSession) → is_answered answer ≡ true → IsGiven s now answer steps e → are_fair (asked_in steps) ≡ true
 given_fair s now None steps e answers (none, same) = asks_none is_fair steps none
 given_fair s now (Some event) steps e answers given = elim (was_given s now event steps e given) [
   | inl none ↦ asks_none is_fair steps none
-  | inr one ↦ are_at is_fair (asked steps) one.0 one.2 (answer_fair s now event one.0 e answers one.1)
+  | inr one ↦ are_at is_fair (asked_in steps) one.0 one.2 (answer_fair s now event one.0 e answers one.1)
 ]
 
 -- ---- which answers come
@@ -434,12 +435,12 @@ fair_done stays n at x s t (actions.Ack table number) out answer fair done = mil
 
 -- ---- one action after another
 
-asked_of : (p : Action → Bool) (answers first rest : List (Event × List Action)) → answers ≡ first ++ rest → list_all p (asked first) ≡ true → list_all p (asked rest) ≡ true → list_all p (asked answers) ≡ true
+asked_of : (p : Action → Bool) (answers first rest : List (Event × List Action)) → answers ≡ first ++ rest → list_all p (asked_in first) ≡ true → list_all p (asked_in rest) ≡ true → list_all p (asked_in answers) ≡ true
 asked_of p answers first rest is one more =
-    are_at p (asked answers) (asked first ++ asked rest) (ap asked is ∙ flat_map-append (λ (step : Event × List Action). step.1) first rest)
-    (both_all p (asked first) (asked rest) one more)
+    are_at p (asked_in answers) (asked_in first ++ asked_in rest) (ap asked_in is ∙ flat_map-append (λ (step : Event × List Action). step.1) first rest)
+    (both_all p (asked_in first) (asked_in rest) one more)
 
-fair_acts : (w e : Worker) (acts : List Action) (answers : List (Event × List Action)) (out : List ℕ) → are_fair acts ≡ true → Acts w acts answers out e → are_light (asked answers) ≡ true
+fair_acts : (w e : Worker) (acts : List Action) (answers : List (Event × List Action)) (out : List ℕ) → are_fair acts ≡ true → Acts w acts answers out e → are_light (asked_in answers) ≡ true
 fair_acts w e [] answers out are (none, nothing, same) = asks_none is_light answers none
 fair_acts w e (act ∷ acts) answers out are (bytes, more, answer, first, rest, seat, mid, done, given, after, is, written) =
     let both = and_parts (is_fair act) (are_fair acts) are in
@@ -447,7 +448,7 @@ fair_acts w e (act ∷ acts) answers out are (bytes, more, answer, first, rest, 
     (given_light w.session w.now answer first mid (fair_done (is_staying w.session.manner) w.number w.now w.session.session w.seat seat act bytes answer both.0 done) given)
     (fair_acts (stands w mid seat) e acts rest more both.1 after)
 
-light_acts : (w e : Worker) (acts : List Action) (answers : List (Event × List Action)) (out : List ℕ) → are_light acts ≡ true → Acts w acts answers out e → are_mute (asked answers) ≡ true
+light_acts : (w e : Worker) (acts : List Action) (answers : List (Event × List Action)) (out : List ℕ) → are_light acts ≡ true → Acts w acts answers out e → are_mute (asked_in answers) ≡ true
 light_acts w e [] answers out are (none, nothing, same) = asks_none is_mute answers none
 light_acts w e (act ∷ acts) answers out are (bytes, more, answer, first, rest, seat, mid, done, given, after, is, written) =
     let both = and_parts (is_light act) (are_light acts) are in
@@ -466,7 +467,7 @@ mute_acts w e (act ∷ acts) answers out are (bytes, more, answer, first, rest, 
     ∙ (ap (λ (x : List (Event × List Action)). x ++ rest) (given_nothing w.session w.now answer first mid (mute_done (is_staying w.session.manner) w.number w.now w.session.session w.seat seat act bytes answer both.0 done) given)
     ∙ mute_acts (stands w mid seat) e acts rest more both.1 after)
 
-any_acts : (w e : Worker) (acts : List Action) (answers : List (Event × List Action)) (out : List ℕ) → Acts w acts answers out e → are_fair (asked answers) ≡ true
+any_acts : (w e : Worker) (acts : List Action) (answers : List (Event × List Action)) (out : List ℕ) → Acts w acts answers out e → are_fair (asked_in answers) ≡ true
 any_acts w e [] answers out (none, nothing, same) = asks_none is_fair answers none
 any_acts w e (act ∷ acts) answers out (bytes, more, answer, first, rest, seat, mid, done, given, after, is, written) =
     asked_of is_fair answers first rest is
@@ -476,9 +477,9 @@ any_acts w e (act ∷ acts) answers out (bytes, more, answer, first, rest, seat,
 -- ---- four lists of actions, each asked for by the answers to the one before
 
 pub ends_after_four : (s one two three e : Worker) (acts : List Action) (a b c d : List (Event × List Action)) (p q r t : List ℕ)
-    → Acts s acts a p one → Acts one (asked a) b q two → Acts two (asked b) c r three → Acts three (asked c) d t e → asked d ≡ []
+    → Acts s acts a p one → Acts one (asked_in a) b q two → Acts two (asked_in b) c r three → Acts three (asked_in c) d t e → asked_in d ≡ []
 ends_after_four s one two three e acts a b c d p q r t first second third fourth =
     let fair = any_acts s one acts a p first in
-    let light = fair_acts one two (asked a) b q fair second in
-    let mute = light_acts two three (asked b) c r light third in
-    ap asked (mute_acts three e (asked c) d t mute fourth)
+    let light = fair_acts one two (asked_in a) b q fair second in
+    let mute = light_acts two three (asked_in b) c r light third in
+    ap asked_in (mute_acts three e (asked_in c) d t mute fourth)

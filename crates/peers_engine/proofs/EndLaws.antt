@@ -14,13 +14,14 @@ use Rattle.session_core.specs.AskedCounts.{asked_as}
 use Rattle.session_core.specs.HeardCounts.{CountsEvent}
 use Rattle.session_core.specs.declared.event.Event.{Event}
 use Rattle.session_core.specs.declared.event.Event.TheVariants as events
+use Rattle.session_core.specs.Paces.{Pace}
 use Rattle.session_core.specs.Phases.{Phase}
 use Rattle.session_core.specs.Phases as phases
 use Rattle.session_core.specs.Sessions.{SessionState, Closes, Goes, GoesIn, ended}
 use Rattle.session_core.specs.Standing.{StandingState, Stands}
 use Rattle.session_core.specs.Manners.{Manner}
 use Rattle.session_core.specs.Manners as manners
-use Rattle.session_core.specs.Keeping.{KeptSession, Steps, StepsAs, standing}
+use Rattle.session_core.specs.Keeping.{KeptSession, Steps, StepsAs, progress_in, standing}
 use Rattle.peers_engine.specs.Acting.{IsOver}
 
 -- the events after which every session is over
@@ -94,6 +95,22 @@ stands_closed s e now (events.Written known) acts is stood = absurd (false≢tru
 stands_closed s e now (events.Settled table settled) acts is stood = absurd (false≢true is)
 stands_closed s e now (events.Refused table) acts is stood = absurd (false≢true is)
 
+stands_as_far : (s e : StandingState) (now : ℕ) (event : Event) (acts : List Action) → closes event ≡ true → Stands s now event acts e → e.pace.progress ≡ s.pace.progress
+stands_as_far s e now events.End acts is (goes, pace) = ap (λ (p : Pace). p.progress) pace
+stands_as_far s e now events.ReadFault acts is (goes, pace) = ap (λ (p : Pace). p.progress) pace
+stands_as_far s e now events.WriteFault acts is (goes, pace) = ap (λ (p : Pace). p.progress) pace
+stands_as_far s e now events.Opened acts is stood = absurd (false≢true is)
+stands_as_far s e now events.Turn acts is stood = absurd (false≢true is)
+stands_as_far s e now events.CaughtUp acts is stood = absurd (false≢true is)
+stands_as_far s e now events.Ask acts is stood = absurd (false≢true is)
+stands_as_far s e now events.Tick acts is stood = absurd (false≢true is)
+stands_as_far s e now (events.Bytes bytes) acts is stood = absurd (false≢true is)
+stands_as_far s e now (events.Copied table batch) acts is stood = absurd (false≢true is)
+stands_as_far s e now (events.Nothing table) acts is stood = absurd (false≢true is)
+stands_as_far s e now (events.Written known) acts is stood = absurd (false≢true is)
+stands_as_far s e now (events.Settled table settled) acts is stood = absurd (false≢true is)
+stands_as_far s e now (events.Refused table) acts is stood = absurd (false≢true is)
+
 close_in : (manner : Manner) (s e : KeptSession) (now : ℕ) (event : Event) (acts : List Action) → closes event ≡ true → StepsAs manner s now event acts e → Closes s.session acts e.session
 close_in manners.Plain s e now event acts is (goes, same) = closed s.session event acts e.session is goes
 close_in (manners.Staying p) s e now event acts is (q, stood, same) = stands_closed (standing s.session p) (standing e.session q) now event acts is stood
@@ -130,6 +147,11 @@ steps_uncounted manner s e now event acts is steps counted =
     let closes = close_in manner s e now event acts is steps in
     counted ∙ (ap (λ (x : List Action). asked_as manner x s.counts) closes.0 ∙ close_uncounted manner s.counts)
 
+-- nor do they change the progress
+pub steps_as_far : (manner : Manner) (s e : KeptSession) (now : ℕ) (event : Event) (acts : List Action) → closes event ≡ true → StepsAs manner s now event acts e → progress_in e.manner ≡ progress_in manner
+steps_as_far manners.Plain s e now event acts is (goes, same) = ap progress_in same
+steps_as_far (manners.Staying p) s e now event acts is (q, stood, same) = ap progress_in same ∙ stands_as_far (standing s.session p) (standing e.session q) now event acts is stood
+
 -- what is left of a session after one of them, whether it takes or refuses it
 pub over_at : (s e : KeptSession) (now : ℕ) (event : Event) (result : Result (Vec Action Global) SessionError) → closes event ≡ true
     → IfOk result (λ acts. Steps s now event acts.items e) → OnErr result (e ≡ record s { session = ended s.session }) → IsOver s e
@@ -137,9 +159,10 @@ over_at s e now event (Ok acts) is steps unchanged = (
   steps_closed s.manner s e now event acts.items is steps.0,
   heard_at event s.session.phase s.heard e.heard is steps.1,
   steps_uncounted s.manner s e now event acts.items is steps.0 steps.2,
+  steps_as_far s.manner s e now event acts.items is steps.0,
 )
 over_at s e now event (Err why) is steps unchanged =
-    (ap (λ (x : KeptSession). x.session) unchanged, ap (λ (x : KeptSession). x.heard) unchanged, ap (λ (x : KeptSession). x.counts) unchanged)
+    (ap (λ (x : KeptSession). x.session) unchanged, ap (λ (x : KeptSession). x.heard) unchanged, ap (λ (x : KeptSession). x.counts) unchanged, ap (λ (x : KeptSession). progress_in x.manner) unchanged)
 
 -- a call that keeps the known bytes consumes none
 pub nothing_consumed : (old new : Option (List ℕ)) → Keeps old new → Consumes old new []

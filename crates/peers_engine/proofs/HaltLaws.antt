@@ -15,16 +15,17 @@ use Rattle.session_core.specs.declared.state.State.TheVariants as states
 use Rattle.session_core.specs.Keeping.{KeptSession, Steps, is_staying}
 use Rattle.session_core.specs.Happenings.{Walks}
 use Rattle.session_core.specs.Sessions.{SessionState, ended, state_of}
+use Rattle.session_core.specs.Hearing.{asked_in}
 use Rattle.peers_engine.specs.declared.errors.EngineError.{EngineError}
 use Rattle.peers_engine.specs.Doing.{Done}
-use Rattle.peers_engine.specs.Acting.{Acts, DoesNotGoOn, DoneBy, EndsAlike, FailsBy, IsCut, IsLost, IsOver, Stops, IsGiven, Worker, asked, stands}
+use Rattle.peers_engine.specs.Acting.{Acts, DoesNotGoOn, DoneBy, EndsAlike, FailsBy, IsCut, IsLost, IsOver, Stops, IsGiven, Worker, stands}
 use Rattle.peers_engine.specs.Turns.{Breaks, BreaksAt, Halts, HaltsAt, Idles, Reacts, Receives, StopsTurn, TakesTurn, Turns, first_event, is_push}
 use Rattle.peers_engine.proofs.ActLaws.{acts_on, one_act, given_some}
 use Rattle.peers_engine.proofs.RunLaws.{acts_walk, same_moment, walks_on}
 
 -- ---- what was asked for
 
-pub asked_on : (first rest : List (Event × List Action)) → asked (first ++ rest) ≡ asked first ++ asked rest
+pub asked_on : (first rest : List (Event × List Action)) → asked_in (first ++ rest) ≡ asked_in first ++ asked_in rest
 asked_on first rest = flat_map-append (λ (step : Event × List Action). step.1) first rest
 
 -- ---- one action
@@ -41,7 +42,7 @@ pub act_stops : (shards : ShardsState) (s mid : Worker) (seat : SeatState) (all 
     → all ≡ before ++ (act ∷ rest) → Acts s before answers first mid → FailsBy shards mid act error last seat
     → Stops shards s all error answers (first ++ last) mid.session seat
 act_stops shards s mid seat all before rest act error answers first last is acted fails =
-    (before, act ∷ rest, first, last, mid, is, acted, inl (inl fails), refl, (refl, refl, refl))
+    (before, act ∷ rest, first, last, mid, is, acted, inl (inl fails), refl, (refl, refl, refl, refl))
 
 pub more_answers : (answers : List (Event × List Action)) (step : Event × List Action) → (answers ++ (step ∷ [])) ≢ []
 more_answers [] step is = cc is
@@ -54,11 +55,11 @@ pub give_stops : (shards : ShardsState) (s mid : Worker) (e : KeptSession) (seat
     → (answers' : List (Event × List Action)) × Stops shards s all error answers' (first ++ bytes) e seat
 give_stops shards s mid e seat all before rest act answer event error answers first bytes is acted done some going (inl (refused, over)) =
     let answered = subst (λ (x : Option Event). DoneBy mid act bytes x seat) some done in
-    (answers, (before, act ∷ rest, first, bytes, mid, is, acted, inl (inr (event, answered, going, refused)), refl, (ap ended over.0, over.1, over.2)))
+    (answers, (before, act ∷ rest, first, bytes, mid, is, acted, inl (inr (event, answered, going, refused)), refl, (ap ended over.0, over.1, over.2, over.3)))
 give_stops shards s mid e seat all before rest act answer event error answers first bytes is acted done some going (inr (acts, taken, memory)) =
     let rejoined : all ≡ (before ++ (act ∷ [])) ++ rest = is ∙ sym (append_assoc before (act ∷ []) rest) in
     let more = act_more s mid e seat before act answer answers ((event, acts) ∷ []) first bytes acted done (given_some mid.session e mid.now answer event acts some taken) in
-    (answers ++ ((event, acts) ∷ []), (before ++ (act ∷ []), rest, first ++ bytes, [], stands mid e seat, rejoined, more, inr ((more_answers answers (event, acts), memory, refl), refl), sym (append-nil (first ++ bytes)), (refl, refl, refl)))
+    (answers ++ ((event, acts) ∷ []), (before ++ (act ∷ []), rest, first ++ bytes, [], stands mid e seat, rejoined, more, inr ((more_answers answers (event, acts), memory, refl), refl), sym (append-nil (first ++ bytes)), (refl, refl, refl, refl)))
 
 -- ---- what the answers ask for, one list after another
 
@@ -79,51 +80,51 @@ lost_later shards s seat rest first answers error out (inr ((some, memory, nothi
 
 -- The actions and those of the first answers, `done`, are performed; those of the others, `given`, aren't yet.
 abbrev pub Went : Worker → List Action → List Action → List Action → Worker → List ℕ → Type 0
-Went s acts done given e out = (answers : List (Event × List Action)) × Acts s (acts ++ done) answers out e × (asked answers ≡ done ++ given)
+Went s acts done given e out = (answers : List (Event × List Action)) × Acts s (acts ++ done) answers out e × (asked_in answers ≡ done ++ given)
 
-pub went_first : (s e : Worker) (acts given : List Action) (answers : List (Event × List Action)) (out : List ℕ) → Acts s acts answers out e → given ≡ asked answers → Went s acts [] given e out
+pub went_first : (s e : Worker) (acts given : List Action) (answers : List (Event × List Action)) (out : List ℕ) → Acts s acts answers out e → given ≡ asked_in answers → Went s acts [] given e out
 went_first s e acts given answers out acted is = (answers, subst (λ (x : List Action). Acts s x answers out e) (sym (append-nil acts)) acted, sym is)
 
 pub went_on : (s mid e : Worker) (acts done given more : List Action) (answers : List (Event × List Action)) (out rest : List ℕ)
-    → Went s acts done given mid out → Acts mid given answers rest e → more ≡ asked answers → Went s acts (done ++ given) more e (out ++ rest)
+    → Went s acts done given mid out → Acts mid given answers rest e → more ≡ asked_in answers → Went s acts (done ++ given) more e (out ++ rest)
 went_on s mid e acts done given more answers out rest (before, acted, all) then is = (
   before ++ answers,
   subst (λ (x : List Action). Acts s x (before ++ answers) (out ++ rest) e) (append_assoc acts done given) (acts_on s mid e (acts ++ done) given before answers out rest acted then),
-  asked_on before answers ∙ (ap (λ (x : List Action). x ++ asked answers) all ∙ ap (λ (x : List Action). (done ++ given) ++ x) (sym is)),
+  asked_on before answers ∙ (ap (λ (x : List Action). x ++ asked_in answers) all ∙ ap (λ (x : List Action). (done ++ given) ++ x) (sym is)),
 )
 
 -- nothing more is asked for
 pub react_done : (s e : Worker) (mid : KeptSession) (event : Event) (acts done given : List Action) (out : List ℕ)
     → Steps s.session s.now event acts mid → Went (stands s mid s.seat) acts done given e out → given ≡ [] → Reacts s event out e
 react_done s e mid event acts done given out taken (answers, acted, all) none =
-    let is : asked answers ≡ done = all ∙ (ap (λ (x : List Action). done ++ x) none ∙ append-nil done) in
+    let is : asked_in answers ≡ done = all ∙ (ap (λ (x : List Action). done ++ x) none ∙ append-nil done) in
     (acts, answers, mid, taken, subst (λ (x : List Action). Acts (stands s mid s.seat) (acts ++ x) answers out e) (sym is) acted)
 
 -- an error among the actions `given`
 pub react_stops : (shards : ShardsState) (s next : Worker) (mid e : KeptSession) (seat : SeatState) (event : Event) (acts done given : List Action) (error : EngineError) (more : List (Event × List Action)) (out rest : List ℕ)
     → Steps s.session s.now event acts mid → Went (stands s mid s.seat) acts done given next out → Stops shards next given error more rest e seat → Halts shards s event error (out ++ rest) e seat
 react_stops shards s next mid e seat event acts done given error more out rest taken (answers, acted, asks) (before, left, first, last, then, is, also, cut, written, same) =
-    let all : acts ++ asked (answers ++ more) ≡ ((acts ++ done) ++ before) ++ (left ++ asked more) =
+    let all : acts ++ asked_in (answers ++ more) ≡ ((acts ++ done) ++ before) ++ (left ++ asked_in more) =
     ap (λ (x : List Action). acts ++ x) (asked_on answers more)
-    ∙ (ap (λ (x : List Action). acts ++ (x ++ asked more)) (asks ∙ ap (λ (x : List Action). done ++ x) is)
-    ∙ (ap (λ (x : List Action). acts ++ x) (append_assoc done (before ++ left) (asked more) ∙ ap (λ (x : List Action). done ++ x) (append_assoc before left (asked more)))
-    ∙ (sym (append_assoc acts done (before ++ (left ++ asked more)))
-    ∙ sym (append_assoc (acts ++ done) before (left ++ asked more))))) in
+    ∙ (ap (λ (x : List Action). acts ++ (x ++ asked_in more)) (asks ∙ ap (λ (x : List Action). done ++ x) is)
+    ∙ (ap (λ (x : List Action). acts ++ x) (append_assoc done (before ++ left) (asked_in more) ∙ ap (λ (x : List Action). done ++ x) (append_assoc before left (asked_in more)))
+    ∙ (sym (append_assoc acts done (before ++ (left ++ asked_in more)))
+    ∙ sym (append_assoc (acts ++ done) before (left ++ asked_in more))))) in
     let done_on = acts_on (stands s mid s.seat) next then (acts ++ done) before answers more out first acted also in
     let rejoined : out ++ rest ≡ (out ++ first) ++ last = ap (λ (x : List ℕ). out ++ x) written ∙ sym (append_assoc out first last) in
-    inr (acts, answers ++ more, mid, taken, ((acts ++ done) ++ before, left ++ asked more, out ++ first, last, then, all, done_on, lost_later shards then seat (left ++ asked more) answers more error last (cut_more shards then seat left (asked more) more error last cut), rejoined, same))
+    inr (acts, answers ++ more, mid, taken, ((acts ++ done) ++ before, left ++ asked_in more, out ++ first, last, then, all, done_on, lost_later shards then seat (left ++ asked_in more) answers more error last (cut_more shards then seat left (asked_in more) more error last cut), rejoined, same))
 
 -- an error among what the event itself asked for
 pub react_stops_first : (shards : ShardsState) (s : Worker) (mid e : KeptSession) (seat : SeatState) (event : Event) (acts : List Action) (error : EngineError) (answers : List (Event × List Action)) (out : List ℕ)
     → Steps s.session s.now event acts mid → Stops shards (stands s mid s.seat) acts error answers out e seat → Halts shards s event error out e seat
 react_stops_first shards s mid e seat event acts error answers out taken (before, rest, first, last, next, is, acted, cut, written, same) =
-    let all : acts ++ asked answers ≡ before ++ (rest ++ asked answers) = ap (λ (x : List Action). x ++ asked answers) is ∙ append_assoc before rest (asked answers) in
-    inr (acts, answers, mid, taken, (before, rest ++ asked answers, first, last, next, all, acted, cut_more shards next seat rest (asked answers) answers error last cut, written, same))
+    let all : acts ++ asked_in answers ≡ before ++ (rest ++ asked_in answers) = ap (λ (x : List Action). x ++ asked_in answers) is ∙ append_assoc before rest (asked_in answers) in
+    inr (acts, answers, mid, taken, (before, rest ++ asked_in answers, first, last, next, all, acted, cut_more shards next seat rest (asked_in answers) answers error last cut, written, same))
 
 -- ---- runs
 
 pub walk_of : (s e : Worker) (event : Event) (out : List ℕ) → Reacts s event out e → (acts : List Action) × (steps : List (Event × List Action)) × Walks s.now s.session ((event, acts) ∷ steps) e.session
-walk_of s e event out (acts, answers, mid, taken, done) = (acts, answers, (mid, taken, acts_walk (stands s mid s.seat) e (acts ++ asked answers) answers out done))
+walk_of s e event out (acts, answers, mid, taken, done) = (acts, answers, (mid, taken, acts_walk (stands s mid s.seat) e (acts ++ asked_in answers) answers out done))
 
 idles_walk : (s e : Worker) (event : Event) → Idles s event e → (e.now ≡ s.now) × ((acts : List Action) × (steps : List (Event × List Action)) × Walks s.now s.session ((event, acts) ∷ steps) e.session)
 idles_walk s e event (acts, answers, mid, taken, pushes, done, nothing) =
@@ -162,7 +163,7 @@ halted_ran shards s e seat (Some event) error out halts = elim (halts_ran shards
 
 -- the session is then ended
 over_after : (s e new : KeptSession) → EndsAlike s e → IsOver e new → IsOver s new
-over_after s e new same is = (is.0 ∙ same.0, is.1 ∙ same.1, is.2 ∙ same.2)
+over_after s e new same is = (is.0 ∙ same.0, is.1 ∙ same.1, is.2 ∙ same.2, is.3 ∙ same.3)
 
 -- the session moved by a run or none, and was then ended
 pub breaks_of : (shards : ShardsState) {untouched : Type 0} (s : Worker) (e new : KeptSession) (seat : SeatState) (received : Option Event) (error : EngineError) (out : List ℕ) → StopsTurn shards untouched s received error out e seat → IsOver e new → Breaks s.now s.session new
@@ -186,7 +187,7 @@ breaks_at shards s e new seat event error out halts is = elim (halts_ran shards 
 -- ---- the end
 
 alike_after : (s e new : KeptSession) → EndsAlike s e → IsOver e new → EndsAlike s new
-alike_after s e new same is = (ap ended is.0 ∙ same.0, is.1 ∙ same.1, is.2 ∙ same.2)
+alike_after s e new same is = (ap ended is.0 ∙ same.0, is.1 ∙ same.1, is.2 ∙ same.2, is.3 ∙ same.3)
 
 stop_ended : (shards : ShardsState) (s : Worker) (e new : KeptSession) (seat : SeatState) (acts : List Action) (error : EngineError) (answers : List (Event × List Action)) (out : List ℕ)
     → Stops shards s acts error answers out e seat → IsOver e new → Stops shards s acts error answers out new seat
@@ -196,7 +197,7 @@ stop_ended shards s e new seat acts error answers out (before, rest, first, last
 pub halt_ended : (shards : ShardsState) (s : Worker) (e new : KeptSession) (seat : SeatState) (event : Event) (error : EngineError) (out : List ℕ) → Halts shards s event error out e seat → IsOver e new → Halts shards s event error out new seat
 halt_ended shards s e new seat event error out (inl (refused, nothing, same, stays)) over = inl (refused, nothing, alike_after s.session e new same over, stays)
 halt_ended shards s e new seat event error out (inr (acts, answers, mid, taken, stops)) over =
-    inr (acts, answers, mid, taken, stop_ended shards (stands s mid s.seat) e new seat (acts ++ asked answers) error answers out stops over)
+    inr (acts, answers, mid, taken, stop_ended shards (stands s mid s.seat) e new seat (acts ++ asked_in answers) error answers out stops over)
 
 halts_ended : (shards : ShardsState) (s : Worker) (e new : KeptSession) (seat : SeatState) (received : Option Event) (error : EngineError) (out : List ℕ) → HaltsAt shards s received error out e seat → IsOver e new → HaltsAt shards s received error out new seat
 halts_ended shards s e new seat None error out (unread, nothing, same, stays) over = (unread, nothing, alike_after s.session e new same over, stays)
@@ -232,14 +233,14 @@ pushes_silent s e (act ∷ acts) answers out are (bytes, more, answer, first, re
 
 -- only pushes were asked for, and they led to nothing
 pub idle_done : (s e : Worker) (mid : KeptSession) (event : Event) (acts : List Action) (answers : List (Event × List Action)) (out : List ℕ)
-    → Steps s.session s.now event acts mid → Acts (stands s mid s.seat) acts answers out e → list_all is_push acts ≡ true → asked answers ≡ []
+    → Steps s.session s.now event acts mid → Acts (stands s mid s.seat) acts answers out e → list_all is_push acts ≡ true → asked_in answers ≡ []
     → Idles s event e × (out ≡ [])
 idle_done s e mid event acts answers out taken acted pushes none =
     let silent = pushes_silent (stands s mid s.seat) e acts answers out pushes acted in
     ((acts, answers, mid, taken, pushes, subst (λ (x : List ℕ). Acts (stands s mid s.seat) acts answers x e) silent acted, none), silent)
 
 -- no action does nothing
-pub none_done : (s e : Worker) (acts : List Action) (answers : List (Event × List Action)) (out : List ℕ) → acts ≡ [] → Acts s acts answers out e → (asked answers ≡ []) × (out ≡ []) × (e ≡ s)
+pub none_done : (s e : Worker) (acts : List Action) (answers : List (Event × List Action)) (out : List ℕ) → acts ≡ [] → Acts s acts answers out e → (asked_in answers ≡ []) × (out ≡ []) × (e ≡ s)
 none_done s e acts answers out none done =
     let nothing = subst (λ (x : List Action). Acts s x answers out e) none done in
-    (ap asked nothing.0, nothing.1, nothing.2)
+    (ap asked_in nothing.0, nothing.1, nothing.2)

@@ -12,8 +12,9 @@ use Rattle.session_core.specs.declared.event.Event.{Event}
 use Rattle.session_core.specs.declared.state.State.TheVariants as states
 use Rattle.session_core.specs.Keeping.{KeptSession}
 use Rattle.session_core.specs.Sessions.{state_of}
+use Rattle.session_core.specs.Hearing.{asked_in}
 use Rattle.peers_engine.specs.declared.errors.EngineError.{EngineError}
-use Rattle.peers_engine.specs.Acting.{Acts, DoesNotGoOn, IsGiven, Stops, Worker, asked, stands}
+use Rattle.peers_engine.specs.Acting.{Acts, DoesNotGoOn, IsGiven, Stops, Worker, stands}
 use Rattle.peers_engine.proofs.ActLaws.{acts_on, one_act}
 use Rattle.peers_engine.proofs.HaltLaws.{cut_more, lost_later}
 use Rattle.peers_engine.proofs.TurnLaws.{AreDone, AreStopped, OneDoneBy, OneFailsBy, give_fails, next_fails}
@@ -21,7 +22,7 @@ use Rattle.peers_engine.proofs.TurnLaws.{AreDone, AreStopped, OneDoneBy, OneFail
 -- an action is performed, its answer, if it has one, is received, what that asks for is kept, and the bytes are written
 abbrev pub IsOne : Worker → Action → List Action → List Action → Worker → Written → Written → Type 0
 IsOne w act given more e old new =
-    (answers : List (Event × List Action)) × (out : List ℕ) × Acts w (act ∷ []) answers out e × (more ≡ given ++ asked answers) × AreWritten old new out
+    (answers : List (Event × List Action)) × (out : List ℕ) × Acts w (act ∷ []) answers out e × (more ≡ given ++ asked_in answers) × AreWritten old new out
 
 -- ---- the action alone
 
@@ -34,7 +35,7 @@ silently_done w seat act given old new (out, done, appended) =
 -- its answer is received
 pub answered : (w : Worker) (e : KeptSession) (seat : SeatState) (act : Action) (answer : Event) (given more : List Action) (old new : Written)
     → OneDoneBy w seat act old new (Some answer)
-    → ((steps : List (Event × List Action)) × IsGiven w.session w.now (Some answer) steps e × (more ≡ given ++ asked steps))
+    → ((steps : List (Event × List Action)) × IsGiven w.session w.now (Some answer) steps e × (more ≡ given ++ asked_in steps))
     → IsOne w act given more (stands w e seat) old new
 answered w e seat act answer given more old new (out, done, appended) (steps, gives, kept) =
     (steps, out, one_act w e seat act (Some answer) steps out done gives, kept, appended)
@@ -64,7 +65,7 @@ one_more s mid e before given more act a b d (answers, out, acted, kept, appende
   answers ++ steps,
   out ++ bytes,
   acts_on s mid e before (act ∷ []) answers steps out bytes acted one,
-  is ∙ (ap (λ (x : List Action). x ++ asked steps) kept ∙ sym (flat_map-append (λ (step : Event × List Action). step.1) answers steps)),
+  is ∙ (ap (λ (x : List Action). x ++ asked_in steps) kept ∙ sym (flat_map-append (λ (step : Event × List Action). step.1) answers steps)),
   writes_then a b d out bytes appended then,
 )
 

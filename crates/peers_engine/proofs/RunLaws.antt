@@ -7,10 +7,11 @@ use Rattle.session_core.specs.declared.state.State.TheVariants as states
 use Rattle.session_core.specs.Keeping.{KeptSession, Steps}
 use Rattle.session_core.specs.Happenings.{Walks}
 use Rattle.session_core.specs.Sessions.{state_of}
+use Rattle.session_core.specs.Hearing.{asked_in}
 use Rattle.table_shards.specs.Receipts.{SeatState}
 use Rattle.table_shards.specs.Rounds.{ShardsState}
 use Rattle.peers_engine.specs.declared.errors.EngineError.{EngineError}
-use Rattle.peers_engine.specs.Acting.{Acts, EndsAlike, IsGiven, IsGivenIn, IsRefused, Worker, asked, stands}
+use Rattle.peers_engine.specs.Acting.{Acts, EndsAlike, IsGiven, IsGivenIn, IsRefused, Worker, stands}
 use Rattle.peers_engine.specs.Turns.{Halts, Idles, Reacts}
 
 pub walks_on : (now : ℕ) (s mid e : KeptSession) (before after : List (Event × List Action)) → Walks now s before mid → Walks now mid after e → Walks now s (before ++ after) e
@@ -49,9 +50,9 @@ acts_walk s e (act ∷ acts) answers out (bytes, more, answer, first, rest, seat
 
 pub reacts_in_a_run : (w e : Worker) (event : Event) (out : List ℕ) → Reacts w event out e
     → (acts : List Action) × (answers : List (Event × List Action)) × (mid : KeptSession)
-    × Walks w.now w.session ((event, acts) ∷ answers) e.session × Acts (stands w mid w.seat) (acts ++ asked answers) answers out e
+    × Walks w.now w.session ((event, acts) ∷ answers) e.session × Acts (stands w mid w.seat) (acts ++ asked_in answers) answers out e
 reacts_in_a_run w e event out (acts, answers, mid, taken, done) =
-    (acts, answers, mid, (mid, taken, acts_walk (stands w mid w.seat) e (acts ++ asked answers) answers out done), done)
+    (acts, answers, mid, (mid, taken, acts_walk (stands w mid w.seat) e (acts ++ asked_in answers) answers out done), done)
 
 pub idles_in_a_run : (w e : Worker) (event : Event) → Idles w event e
     → (acts : List Action) × (answers : List (Event × List Action)) × (mid : KeptSession)
@@ -64,7 +65,7 @@ pub halts_in_a_run : (shards : ShardsState) (w : Worker) (event : Event) (error 
     → IsRefused w.session.session event error
     ⊎ ((acts before rest : List Action) × (answers : List (Event × List Action)) × (first last : List ℕ) × (mid : KeptSession) × (at : Worker)
     × Walks w.now w.session ((event, acts) ∷ answers) at.session × Acts (stands w mid w.seat) before answers first at
-    × (acts ++ asked answers ≡ before ++ rest) × (out ≡ first ++ last) × EndsAlike at.session e)
+    × (acts ++ asked_in answers ≡ before ++ rest) × (out ≡ first ++ last) × EndsAlike at.session e)
 halts_in_a_run shards w event error out e seat (inl (refuses, nothing, alike, same)) = inl refuses
 halts_in_a_run shards w event error out e seat (inr (acts, answers, mid, taken, (before, rest, first, last, at, is, done, why, written, alike))) =
     inr (acts, before, rest, answers, first, last, mid, at, (mid, taken, acts_walk (stands w mid w.seat) at before answers first done), done, is, written, alike)

@@ -18,10 +18,11 @@ use Rattle.session_core.specs.Phases as phases
 use Rattle.session_core.specs.Courses.{state_of_course}
 use Rattle.session_core.specs.Sessions.{SessionState, Refuses, state_of}
 use Rattle.session_core.specs.Keeping.{KeptSession, Steps, is_staying}
+use Rattle.session_core.specs.Hearing.{asked_in}
 use Rattle.peers_engine.specs.declared.errors.EngineError.{EngineError}
 use Rattle.peers_engine.specs.declared.errors.EngineError.TheVariants as errors
 use Rattle.peers_engine.specs.Doing.{Done, Fails}
-use Rattle.peers_engine.specs.Acting.{Acts, DoesNotGoOn, IsOver, Stops, Worker, asked, stands}
+use Rattle.peers_engine.specs.Acting.{Acts, DoesNotGoOn, IsOver, Stops, Worker, stands}
 use Rattle.peers_engine.specs.Reading.{IsRead}
 use Rattle.peers_engine.specs.Turns.{Breaks, BreaksAt, Halts, HaltsAt, Moves, Receives, Idles, Reacts, StopsTurn, TakesTurn, Turns, first_event, is_push}
 use Rattle.peers_engine.proofs.CalmLaws.{ends_after_four}
@@ -32,7 +33,7 @@ use Rattle.peers_engine.proofs.HaltLaws.{Went, act_stops, breaks_at, breaks_of, 
 -- the actions so far are performed, their answers are received, what those ask for is kept, and the bytes are written
 abbrev pub AreDone : Worker → List Action → List Action → Worker → Written → Written → Type 0
 AreDone s acts given e old new =
-    (answers : List (Event × List Action)) × (out : List ℕ) × Acts s acts answers out e × (given ≡ asked answers) × AreWritten old new out
+    (answers : List (Event × List Action)) × (out : List ℕ) × Acts s acts answers out e × (given ≡ asked_in answers) × AreWritten old new out
 
 -- the same, up to an error
 abbrev pub AreStopped : ShardsState → Worker → List Action → EngineError → KeptSession → SeatState → Written → Written → Type 0

@@ -1,6 +1,5 @@
 -- Performing a session's actions one after another, and how far an error lets them go.
 use Rattle.std.specs.Prelude.{◌≡◌, ◌≢◌, ◌⊎◌, ℕ, List, [], ◌∷◌, ◌++◌, Option, Some, None}
-use Rattle.std.specs.List.{flat_map}
 use Rattle.table_shards.specs.Receipts.{SeatState}
 use Rattle.table_shards.specs.Rounds.{ShardsState}
 use Rattle.session_core.specs.declared.action.Action.{Action}
@@ -8,7 +7,7 @@ use Rattle.session_core.specs.declared.error.SessionError.{SessionError}
 use Rattle.session_core.specs.declared.event.Event.{Event}
 use Rattle.session_core.specs.declared.state.State.{State}
 use Rattle.session_core.specs.declared.state.State.TheVariants as states
-use Rattle.session_core.specs.Keeping.{KeptSession, Steps, is_staying}
+use Rattle.session_core.specs.Keeping.{KeptSession, Steps, is_staying, progress_in}
 use Rattle.session_core.specs.Sessions.{SessionState, Refuses, ended, state_of}
 use Rattle.peers_engine.specs.declared.errors.EngineError.{EngineError}
 use Rattle.peers_engine.specs.declared.errors.EngineError.TheVariants as errors
@@ -37,13 +36,15 @@ DoneBy w act out answer seat = Done (is_staying w.session.manner) w.number w.now
 abbrev pub FailsBy : ShardsState → Worker → Action → EngineError → List ℕ → SeatState → Type 0
 FailsBy shards w act error out seat = Fails shards (is_staying w.session.manner) w.number w.now w.session.session w.seat act error out seat
 
--- the session is over, and has heard and counted what `s` did
+-- the session is over, has heard and counted what `s` did, and says the progress of `s`
 abbrev pub IsOver : KeptSession → KeptSession → Type 0
-IsOver s e = (e.session ≡ ended s.session) × (e.heard ≡ s.heard) × (e.counts ≡ s.counts)
+IsOver s e =
+    (e.session ≡ ended s.session) × (e.heard ≡ s.heard) × (e.counts ≡ s.counts) × (progress_in e.manner ≡ progress_in s.manner)
 
--- once it is over, the session is as `s` would be, and it has heard and counted what `s` did
+-- once it is over, the session is as `s` would be, and it has heard and counted what `s` did and says the progress of `s`
 abbrev pub EndsAlike : KeptSession → KeptSession → Type 0
-EndsAlike s e = (ended e.session ≡ ended s.session) × (e.heard ≡ s.heard) × (e.counts ≡ s.counts)
+EndsAlike s e =
+    (ended e.session ≡ ended s.session) × (e.heard ≡ s.heard) × (e.counts ≡ s.counts) × (progress_in e.manner ≡ progress_in s.manner)
 
 -- The session receives an answer, if there is one, as the one event of a run. A session that is over receives nothing.
 abbrev pub IsGivenIn : State → KeptSession → ℕ → Event → List (Event × List Action) → KeptSession → Type 0
@@ -69,10 +70,6 @@ Acts w (act ∷ acts) answers out e =
     × Acts (stands w mid seat) acts rest more e
     × (answers ≡ first ++ rest)
     × (out ≡ bytes ++ more)
-
--- what these events asked for, in order
-abbrev pub asked : List (Event × List Action) → List Action
-asked steps = flat_map (λ step. step.1) steps
 
 -- ---- up to an error
 
@@ -101,7 +98,7 @@ abbrev pub IsLost : List (Event × List Action) → EngineError → List ℕ →
 IsLost answers error out = (answers ≢ []) × (error ≡ errors.Memory) × (out ≡ [])
 
 -- The actions up to one were performed, and then an error came: what was written, the session, except that it is then
--- over, with what it has heard and counted, and the seat as it is then.
+-- over, with what it has heard and counted and its progress, and the seat as it is then.
 abbrev pub Stops : ShardsState → Worker → List Action → EngineError → List (Event × List Action) → List ℕ → KeptSession → SeatState → Type 0
 Stops shards w acts error answers out e seat =
     (before rest : List Action)

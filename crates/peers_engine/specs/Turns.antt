@@ -11,11 +11,12 @@ use Rattle.session_core.specs.declared.state.State.TheVariants as states
 use Rattle.session_core.specs.Keeping.{KeptSession, Steps}
 use Rattle.session_core.specs.Happenings.{Walks}
 use Rattle.session_core.specs.Sessions.{state_of}
+use Rattle.session_core.specs.Hearing.{asked_in}
 use Rattle.table_shards.specs.Receipts.{SeatState}
 use Rattle.table_shards.specs.Rounds.{ShardsState}
 use Rattle.peers_engine.specs.declared.errors.EngineError.{EngineError}
 use Rattle.peers_engine.specs.Reading.{IsUnread}
-use Rattle.peers_engine.specs.Acting.{Acts, EndsAlike, IsOver, IsRefused, Stops, Worker, asked, stands}
+use Rattle.peers_engine.specs.Acting.{Acts, EndsAlike, IsOver, IsRefused, Stops, Worker, stands}
 
 -- the event with which a turn begins: it opens a new session, and lets any other teach
 abbrev pub first_event : State → Event
@@ -49,7 +50,7 @@ Reacts w event out e =
     × (answers : List (Event × List Action))
     × (mid : KeptSession)
     × Steps w.session w.now event acts mid
-    × Acts (stands w mid w.seat) (acts ++ asked answers) answers out e
+    × Acts (stands w mid w.seat) (acts ++ asked_in answers) answers out e
 
 -- the session refuses the event; or receives it, and what it asks for is performed up to an error
 abbrev pub Halts : ShardsState → Worker → Event → EngineError → List ℕ → KeptSession → SeatState → Type 0
@@ -59,7 +60,7 @@ Halts shards w event error out e seat =
     × (answers : List (Event × List Action))
     × (mid : KeptSession)
     × Steps w.session w.now event acts mid
-    × Stops shards (stands w mid w.seat) (acts ++ asked answers) error answers out e seat)
+    × Stops shards (stands w mid w.seat) (acts ++ asked_in answers) error answers out e seat)
 
 -- ---- a whole turn
 
@@ -77,7 +78,7 @@ Idles w event e =
     × Steps w.session w.now event acts mid
     × (list_all is_push acts ≡ true)
     × Acts (stands w mid w.seat) acts answers [] e
-    × (asked answers ≡ [])
+    × (asked_in answers ≡ [])
 
 -- The session receives an event, if there is one; and the same up to an error, which may come before the event.
 abbrev pub Receives : Worker → Option Event → List ℕ → Worker → Type 0

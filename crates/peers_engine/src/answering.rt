@@ -6,8 +6,9 @@ ghost use Rattle.session_core.specs.declared.event.Event.{Event};
 ghost use Rattle.session_core.specs.declared.state.State.TheVariants as states;
 ghost use Rattle.session_core.specs.Keeping.{is_staying};
 ghost use Rattle.session_core.specs.Sessions.{state_of};
+ghost use Rattle.session_core.specs.Hearing.{asked_in};
 ghost use Rattle.peers_engine.specs.declared.errors.EngineError.TheVariants as errors;
-ghost use Rattle.peers_engine.specs.Acting.{DoesNotGoOn, IsGiven, asked};
+ghost use Rattle.peers_engine.specs.Acting.{DoesNotGoOn, IsGiven};
 
 use crate::errors::EngineError;
 use session_core::{Action, Event, Session, State};
@@ -23,7 +24,7 @@ pub(crate) fn give_answer(
 ) -> Result<(), EngineError>
     ensures manner { is_staying session.new.manner ≡ is_staying session.old.manner }
     ensures given { OnOk result ((steps : List (Event × List Action)) × IsGiven session.old now (Some answer) steps session.new
-        × (given.new.items ≡ given.old.items ++ asked steps)) }
+        × (given.new.items ≡ given.old.items ++ asked_in steps)) }
     ensures stuck { IfErr result (λ e. (state_of session.old.session.phase ≢ states.Ended) × DoesNotGoOn session.old now answer e session.new) }
     ensures unwritten { IfErr result (λ e. (sent : ℕ) → e ≢ errors.Write sent) }
 {

@@ -11,7 +11,8 @@ ghost use Rattle.session_core.specs.declared.event.Event.TheVariants as events;
 ghost use Rattle.peers_engine.specs.declared.errors.EngineError.TheVariants as errors;
 ghost use Rattle.session_core.specs.Keeping.{is_staying};
 ghost use Rattle.session_core.specs.Sessions.{SessionState};
-ghost use Rattle.peers_engine.specs.Acting.{Acts, Stops, asked, worker};
+ghost use Rattle.session_core.specs.Hearing.{asked_in};
+ghost use Rattle.peers_engine.specs.Acting.{Acts, Stops, worker};
 ghost use Rattle.peers_engine.specs.Calls.{IsCopied, IsSettled, IsUncopied, moment_at};
 ghost use Rattle.teach_writer.specs.Lessons.{IsShortestLesson};
 ghost use Rattle.teach_writer.specs.Pieces.{bytes_left};
@@ -162,7 +163,7 @@ pub(crate) fn act<H: Wait, G: Gate, W: Write + Faults>(
     ensures manner { is_staying session.new.manner ≡ is_staying session.old.manner }
     ensures done { OnOk result ((answers : List (Event × List Action)) × (out : List ℕ)
         × Acts (worker session.old seat.old context.now.number context.now.moment) (action ∷ []) answers out (worker session.new seat.new context.now.number context.now.moment)
-        × (given.new.items ≡ given.old.items ++ asked answers)
+        × (given.new.items ≡ given.old.items ++ asked_in answers)
         × AreWritten (written (W.contents output.old) writes.old) (written (W.contents output.new) writes.new) out) }
     ensures failed { IfErr result (λ e. (answers : List (Event × List Action)) × (out : List ℕ)
         × Stops context.now.shards.now (worker session.old seat.old context.now.number context.now.moment) (action ∷ []) e answers out session.new seat.new

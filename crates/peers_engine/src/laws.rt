@@ -6,6 +6,7 @@ ghost use Rattle.session_core.specs.Sessions.{SessionState};
 ghost use Rattle.session_core.specs.declared.event.Event.{Event};
 ghost use Rattle.session_core.specs.Happenings.{Happening, Lasts, Walks};
 ghost use Rattle.session_core.specs.Keeping.{KeptSession};
+ghost use Rattle.session_core.specs.Hearing.{asked_in};
 ghost use Rattle.table_types.specs.declared.copies.CopyKind.{CopyKind};
 ghost use Rattle.table_types.specs.declared.update.Update.{Update};
 ghost use Rattle.table_cell.specs.Histories.{CellState};
@@ -15,7 +16,7 @@ ghost use Rattle.table_shards.specs.Receipts.{SeatState};
 ghost use Rattle.table_shards.specs.Rounds.{ShardsState};
 ghost use Rattle.table_shards.specs.declared.errors.ShardError.TheVariants as errors;
 ghost use Rattle.peers_engine.specs.declared.errors.EngineError.{EngineError};
-ghost use Rattle.peers_engine.specs.Acting.{Acts, EndsAlike, IsRefused, Worker, asked, stands};
+ghost use Rattle.peers_engine.specs.Acting.{Acts, EndsAlike, IsRefused, Worker, stands};
 ghost use Rattle.peers_engine.specs.Calls.{CallsCopyOn, CallsLearnOn, moment_at};
 ghost use Rattle.peers_engine.specs.Doing.{IsStrange, IsUnasked, KeepsRefusal};
 ghost use Rattle.peers_engine.specs.Turns.{Halts, Idles, Moves, Reacts, Turns};
@@ -52,7 +53,7 @@ pub fn what_a_worker_does_happens()
 pub fn what_is_written_is_the_run()
     ensures reacts { (w e : Worker) (event : Event) (out : List ℕ) → Reacts w event out e →
         (acts : List Action) × (answers : List (Event × List Action)) × (mid : KeptSession)
-        × Walks w.now w.session ((event, acts) ∷ answers) e.session × Acts (stands w mid w.seat) (acts ++ asked answers) answers out e }
+        × Walks w.now w.session ((event, acts) ∷ answers) e.session × Acts (stands w mid w.seat) (acts ++ asked_in answers) answers out e }
     ensures idles { (w e : Worker) (event : Event) → Idles w event e →
         (acts : List Action) × (answers : List (Event × List Action)) × (mid : KeptSession)
         × Walks w.now w.session ((event, acts) ∷ answers) e.session × Acts (stands w mid w.seat) acts answers [] e }
@@ -61,5 +62,5 @@ pub fn what_is_written_is_the_run()
         IsRefused w.session.session event error
         ⊎ ((acts before rest : List Action) × (answers : List (Event × List Action)) × (first last : List ℕ) × (mid : KeptSession) × (at : Worker)
         × Walks w.now w.session ((event, acts) ∷ answers) at.session × Acts (stands w mid w.seat) before answers first at
-        × (acts ++ asked answers ≡ before ++ rest) × (out ≡ first ++ last) × EndsAlike at.session e) }
+        × (acts ++ asked_in answers ≡ before ++ rest) × (out ≡ first ++ last) × EndsAlike at.session e) }
 {}

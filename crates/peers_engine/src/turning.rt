@@ -10,12 +10,13 @@ ghost use Rattle.session_core.specs.declared.error.SessionError.{SessionError};
 ghost use Rattle.session_core.specs.declared.error.SessionError.TheVariants as refusals;
 ghost use Rattle.session_core.specs.declared.event.Event.{Event};
 ghost use Rattle.session_core.specs.declared.state.State.TheVariants as states;
-ghost use Rattle.session_core.specs.Keeping.{is_staying};
+ghost use Rattle.session_core.specs.Keeping.{is_staying, progress_in};
 ghost use Rattle.session_core.specs.Sessions.{Refuses, ended, state_of};
+ghost use Rattle.session_core.specs.Hearing.{asked_in};
 ghost use Rattle.peers_engine.specs.declared.errors.EngineError.TheVariants as errors;
 ghost use Rattle.peers_engine.specs.declared.outcome.Outcome.TheVariants as outcomes;
 ghost use Rattle.peers_engine.specs.declared.turned.Turned.TheVariants as turns;
-ghost use Rattle.peers_engine.specs.Acting.{Acts, Stops, asked, worker};
+ghost use Rattle.peers_engine.specs.Acting.{Acts, Stops, worker};
 ghost use Rattle.peers_engine.specs.Reading.{IsRead};
 ghost use Rattle.peers_engine.specs.Turns.{Breaks, BreaksAt, Halts, HaltsAt, Moves, Receives, Idles, Reacts, StopsTurn, TakesTurn, Turns, first_event, is_push};
 
@@ -56,7 +57,7 @@ fn do_all<H: Wait, G: Gate, W: Write + Faults>(
     ensures seat { seat.new.number ≡ seat.old.number }
     ensures manner { is_staying session.new.manner ≡ is_staying session.old.manner }
     ensures done { IfOk result (λ given. (answers : List (Event × List Action)) × (out : List ℕ)
-        × Acts (worker session.old seat.old context.now.number context.now.moment) actions.items answers out (worker session.new seat.new context.now.number context.now.moment) × (given.items ≡ asked answers)
+        × Acts (worker session.old seat.old context.now.number context.now.moment) actions.items answers out (worker session.new seat.new context.now.number context.now.moment) × (given.items ≡ asked_in answers)
         × AreWritten (written (W.contents output.old) writes.old) (written (W.contents output.new) writes.new) out) }
     ensures failed { IfErr result (λ e. (answers : List (Event × List Action)) × (out : List ℕ)
         × Stops context.now.shards.now (worker session.old seat.old context.now.number context.now.moment) actions.items e answers out session.new seat.new
@@ -192,6 +193,7 @@ fn end<H, G>(context: &Context<H, G>, session: &mut Session, error: EngineError)
     ensures ended { session.new.session ≡ ended session.old.session }
     ensures heard { session.new.heard ≡ session.old.heard }
     ensures counts { session.new.counts ≡ session.old.counts }
+    ensures progress { progress_in session.new.manner ≡ progress_in session.old.manner }
     ensures manner { is_staying session.new.manner ≡ is_staying session.old.manner }
 {
     let event = match error {

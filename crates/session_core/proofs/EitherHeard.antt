@@ -36,7 +36,7 @@ use Rattle.session_core.proofs.TakenHoweverCut.{AreTaken, IsOver, taken_good}
 
 -- ---- a session that is over
 
-over_hears : (settles : ℕ → ℕ → Bool) (s e : KeptSession) (due left : List (ℕ × ℕ)) (steps : List Happening) → s.session.phase ≡ phases.Ended → Hears settles s due steps e left → (steps ≡ []) × (e ≡ s)
+pub over_hears : (settles : ℕ → ℕ → Bool) (s e : KeptSession) (due left : List (ℕ × ℕ)) (steps : List Happening) → s.session.phase ≡ phases.Ended → Hears settles s due steps e left → (steps ≡ []) × (e ≡ s)
 over_hears settles s e due left [] over (here, is) = (refl, here)
 over_hears settles s e due left (one ∷ steps) over (mid, rest, takes, awaits, again) =
     let asked : is_asked s.session.phase one.event ≡ true = unasked s mid one.now one.event one.acts takes in
@@ -60,7 +60,7 @@ HearsFrom settles steps =
     → IsHeard (reading_of c) (heard_in (handed steps)) s.heard e.heard e.session.phase
 
 -- the messages of these bytes were the first
-then_more : (settles : ℕ → ℕ → Bool) (end : Result (Unit {0}) Halt) (s mid e : KeptSession) (r : Reading) (bytes : List ℕ) (ts : List Taken) (y : Reading) (due left : List (ℕ × ℕ)) (steps : List Happening)
+pub then_more : (settles : ℕ → ℕ → Bool) (end : Result (Unit {0}) Halt) (s mid e : KeptSession) (r : Reading) (bytes : List ℕ) (ts : List Taken) (y : Reading) (due left : List (ℕ × ℕ)) (steps : List Happening)
     → IsBytes (r.intake.unread ++ bytes) → IsBytes (heard_in (handed steps)) → AreTaken (fed r bytes) ts y → IsOver y end → AreCounted ts y s.heard mid.heard → IsLeftAt end y mid.session.phase
     → HearsFrom settles steps → Hears settles mid due steps e left → IsHeard r (bytes ++ heard_in (handed steps)) s.heard e.heard e.session.phase
 then_more settles (Ok u) s mid e r bytes ts y due left steps good more takes over counted (d, opens, reads) later hears =

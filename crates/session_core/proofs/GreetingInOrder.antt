@@ -121,7 +121,7 @@ answer_good answers.More other bytes rest good is = cc
 answer_good (answers.Accepted name version used) other bytes rest good is = subst IsBytes (opened_rest version other (drop used bytes) rest is) (IsBytes-drop used bytes good)
 answer_good (answers.Refused code used) other bytes rest good is = cc
 
-meeting_good : (greeter : Greeter) (version : Version) (bytes rest : List ℕ) → IsBytes bytes → meeting greeter bytes ≡ Opens version rest → IsBytes rest
+pub meeting_good : (greeter : Greeter) (version : Version) (bytes rest : List ℕ) → IsBytes bytes → meeting greeter bytes ≡ Opens version rest → IsBytes rest
 meeting_good (greeters.Connects said) version bytes rest good is = status_good said version (status_of bytes) bytes rest good is
 meeting_good (greeters.Accepts own peers) version bytes rest good is = answer_good (answer_of own peers bytes) version bytes rest good is
 

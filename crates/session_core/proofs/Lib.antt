@@ -39,6 +39,7 @@ mod MessagesInOrder
 mod HeardHoweverCut
 mod StandingInOrder
 mod GreetedHoweverCut
+mod GreetingHeard
 mod GreetingInOrder
 mod HelloDecides
 mod LessonDue

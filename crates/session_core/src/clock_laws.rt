@@ -36,8 +36,8 @@ pub fn what_a_tick_gives()
     ensures plain { (s e : KeptSession) (now : ℕ) (acts : List Action) → s.manner ≡ manners.Plain → Steps s now events.Tick acts e → (acts ≡ []) × (e ≡ s) }
 {}
 
-/// A tick that leaves no table and doesn't close changes only the moment at which this node last sent bytes. It asks for a
-/// heartbeat if the session stays, is open and has sent nothing for 3 s, and otherwise for nothing. If all ticks of a run are such,
+/// A tick that leaves no table and doesn't close changes only the moment at which this node last sent bytes, and how many heartbeats
+/// the session counted. It asks for a heartbeat if the session stays, is open and has sent nothing for 3 s, and otherwise for nothing. If all ticks of a run are such,
 /// the run without them is still a run, of the same events with the same actions, and comes to the same session.
 pub fn ticks_change_nothing_else()
     ensures tick { (s e : KeptSession) (now : ℕ) (acts : List Action) → Steps s now events.Tick acts e → list_any is_reopen acts ≡ false →

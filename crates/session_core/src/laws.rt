@@ -158,8 +158,9 @@ pub fn any_answers()
 
 /// `any_answers` holds from the first byte on. However the bytes of a session in Hello are cut into events, the rest of the
 /// hello or of the status and the messages after it, the session asks its caller for the same. Once the tables have answered
-/// all acknowledgements, or the session is over, the session is the same. If the tables have answered all of them and it is
-/// open, it asked to reopen tables in both runs or in neither.
+/// all acknowledgements, or the session is over, the session is the same. What it counts of the control messages and of what was passed
+/// over is the same (`heard`). If the tables have answered all of them and it is open, it asked to reopen tables in both runs or in
+/// neither.
 pub fn any_greeting()
     ensures told { (settles : ℕ → ℕ → Bool) (roster : List Definition) (begun s e end : KeptSession) (before : List Happening) (greeter : Greeter) (bytes : List ℕ) (c : Course) (one other : Happening) (steps others : List Happening) (more rest : List ℕ) (left over : List (ℕ × ℕ)) →
         Begins roster begun → Lasts begun before s → s.session.phase ≡ phases.Hello greeter bytes c → HoldsBytes s.session.phase →
@@ -171,6 +172,11 @@ pub fn any_greeting()
         IsBytes (heard_in (handed (one ∷ steps)) ++ more) → heard_in (handed (one ∷ steps)) ++ more ≡ heard_in (handed (other ∷ others)) ++ rest →
         Hears settles s [] (one ∷ steps) e left → Hears settles s [] (other ∷ others) end over → IsFedOut more e.session → IsFedOut rest end.session →
         (left ≡ []) ⊎ (e.session.phase ≡ phases.Ended) → (over ≡ []) ⊎ (end.session.phase ≡ phases.Ended) → e.session ≡ end.session }
+    ensures heard { (settles : ℕ → ℕ → Bool) (s e end : KeptSession) (greeter : Greeter) (bytes : List ℕ) (c : Course) (one other : Happening) (steps others : List Happening) (more rest : List ℕ) (left over : List (ℕ × ℕ)) →
+        s.session.phase ≡ phases.Hello greeter bytes c → HoldsBytes s.session.phase →
+        IsBytes (heard_in (handed (one ∷ steps)) ++ more) → heard_in (handed (one ∷ steps)) ++ more ≡ heard_in (handed (other ∷ others)) ++ rest →
+        Hears settles s [] (one ∷ steps) e left → Hears settles s [] (other ∷ others) end over → IsFedOut more e.session → IsFedOut rest end.session →
+        e.heard ≡ end.heard }
     ensures reopened { (settles : ℕ → ℕ → Bool) (roster : List Definition) (begun s e end : KeptSession) (before : List Happening) (greeter : Greeter) (bytes : List ℕ) (c : Course) (one other : Happening) (steps others : List Happening) (more rest : List ℕ) (left over : List (ℕ × ℕ)) →
         Begins roster begun → Lasts begun before s → s.session.phase ≡ phases.Hello greeter bytes c → HoldsBytes s.session.phase →
         IsBytes (heard_in (handed (one ∷ steps)) ++ more) → heard_in (handed (one ∷ steps)) ++ more ≡ heard_in (handed (other ∷ others)) ++ rest →

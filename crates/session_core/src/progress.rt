@@ -24,7 +24,7 @@ pub struct Progress {
     pub since: u64,
     /// The greatest number of a batch.
     pub greatest: u32,
-    /// The number that the remote peer acknowledged last, of those up to the greatest.
+    /// The number, of those up to the greatest, that the remote peer acknowledged last while a batch of the table was out.
     pub acknowledged: Option<u32>,
     /// Whether the remote peer acknowledged a number above the greatest.
     pub ahead: bool,

@@ -1,25 +1,9 @@
-//! Known states: which parts make one, and which messages one accepts.
+//! Known states: which messages one accepts.
 
-use known_state::{KnownError, StepError};
+use known_state::StepError;
 use table_types::{DataType, KeyKind};
-use tests_play_data::known_states::{Parts, Sent, Story, first_failing, first_refused_otherwise};
+use tests_play_data::known_states::{Sent, Story, first_failing};
 use tests_play_data::parts::{KnownParts, T1, T2, TableParts};
-
-static PARTS: [Parts; 8] = [
-    (Some(1), &[1], &[(1, 5)], None),
-    (Some(9), &[1, 1], &[], Some(KnownError::NoTable)),
-    (None, &[9], &[], Some(KnownError::NoTable)),
-    (None, &[1], &[(9, 5)], Some(KnownError::NoTable)),
-    (Some(1), &[], &[], Some(KnownError::NotDefined)),
-    (None, &[], &[(1, 5)], Some(KnownError::NotDefined)),
-    (None, &[1, 1], &[], Some(KnownError::Repeated)),
-    (None, &[1], &[(1, 5), (1, 5)], Some(KnownError::Repeated)),
-];
-
-#[test]
-fn parts_are_refused(rt: HostRuntime) {
-    assert_eq!(rt; first_refused_otherwise(rt.alloc(), &PARTS), None);
-}
 
 /// `t1` with another expire.
 const LONGER: TableParts = TableParts {
@@ -60,10 +44,7 @@ static STORIES: [Story; 2] = [
             last: &[],
             held: &[],
         },
-        &[
-            (Sent::Count(None), Some(StepError::NoNumber), Some(1), None),
-            (Sent::Address, Some(StepError::Foreign), Some(1), None),
-        ],
+        &[(Sent::Count(None), Some(StepError::NoNumber), Some(1), None)],
     ),
 ];
 

@@ -2,16 +2,12 @@
 
 use crate::bytes::TWO_UPDATES;
 use table_types::{DataType, KeyKind, Value};
-use tests_play_data::cyclic_names::{Names, names_taught};
-use tests_play_data::lessons::{
-    Costly, Taught, comes_in_pieces, first_failing, goes_on_after_end, is_taught_again,
-    is_taught_from_copies, names_cost,
-};
+use tests_play_data::lessons::{Costly, Taught, first_failing, goes_on_after_end, names_cost};
 use tests_play_data::parts::{KeyParts, KnownParts, ST, T1, TableParts, UpdateParts};
 
 const LIFE: Option<u32> = Some(30_000);
 
-static TAUGHT: [Taught; 6] = [
+static TAUGHT: [Taught; 4] = [
     Taught {
         from: KnownParts {
             table: T1,
@@ -55,27 +51,6 @@ static TAUGHT: [Taught; 6] = [
         bytes: TWO_UPDATES,
         prices: &[],
         last: 2,
-        held: &[],
-    },
-    Taught {
-        from: KnownParts {
-            table: T1,
-            selected: Some(1),
-            defined: &[1],
-            last: &[(1, 4_294_967_295)],
-            held: &[],
-        },
-        updates: &[UpdateParts {
-            table: 1,
-            number: 0,
-            life: LIFE,
-            key: KeyParts::Int(7),
-            values: &[Value::Count(5)],
-            name: b"",
-        }],
-        bytes: &[0x0A, 0x86, 9, 0, 0, 0x75, 0x30, 0, 0, 0, 7, 5],
-        prices: &[],
-        last: 0,
         held: &[],
     },
     Taught {
@@ -134,95 +109,26 @@ static TAUGHT: [Taught; 6] = [
         last: 6,
         held: &[1, 2],
     },
-    // Updates without a life.
-    Taught {
-        from: KnownParts {
-            table: T1,
-            selected: None,
-            defined: &[],
-            last: &[],
-            held: &[],
-        },
-        updates: &[
-            UpdateParts {
-                table: 1,
-                number: 1,
-                life: None,
-                key: KeyParts::Int(7),
-                values: &[Value::Count(5)],
-                name: b"",
-            },
-            UpdateParts {
-                table: 1,
-                number: 2,
-                life: None,
-                key: KeyParts::Int(8),
-                values: &[Value::Count(240)],
-                name: b"",
-            },
-        ],
-        bytes: &[
-            0x0A, 0x82, 0x0A, 1, 2, 0x74, 0x31, 2, 4, 4, 0xF0, 0xC4, 0x0D, 0x0A, 0x80, 9, 0, 0, 0,
-            1, 0, 0, 0, 7, 5, 0x0A, 0x81, 6, 0, 0, 0, 8, 0xF0, 0,
-        ],
-        prices: &[],
-        last: 2,
-        held: &[],
-    },
 ];
 
+/// Each is taught from copies of its known state and its batch.
 #[test]
 fn lessons(rt: HostRuntime) {
     assert_eq!(rt; first_failing(rt.alloc(), &TAUGHT), None);
-}
-
-#[test]
-fn a_lesson_is_taught_from_copies(rt: HostRuntime) {
-    assert!(rt; is_taught_from_copies(rt.alloc(), &TAUGHT[1]) == Some(true));
-}
-
-/// May be run with any allocation failing: the teacher refuses, and teaches when it is asked again.
-#[test]
-fn a_lesson_is_taught_again(rt: HostRuntime) {
-    assert!(rt; is_taught_again(rt.alloc(), &TAUGHT[3]) != Some(false));
-}
-
-/// The same if slots hold the name.
-#[test]
-fn a_lesson_of_a_name_held_is_taught_again(rt: HostRuntime) {
-    assert!(rt; is_taught_again(rt.alloc(), &TAUGHT[4]) != Some(false));
-}
-
-#[test]
-fn a_lesson_comes_in_three_pieces(rt: HostRuntime) {
-    assert_eq!(rt;
-        comes_in_pieces(rt.alloc(), &TAUGHT[3], &[16, 18, 11]),
-        Some(true)
-    );
 }
 
 /// `end` is called after the first piece, and hands the pieces back.
 #[test]
 fn a_lesson_goes_on_after_an_early_end(rt: HostRuntime) {
     assert_eq!(rt;
-        goes_on_after_end(rt.alloc(), &TAUGHT[3], &[16, 18, 11]),
+        goes_on_after_end(rt.alloc(), &TAUGHT[2], &[16, 18, 11]),
         Some(true)
     );
 }
 
 #[test]
 fn an_empty_lesson_comes_in_none(rt: HostRuntime) {
-    assert_eq!(rt; comes_in_pieces(rt.alloc(), &TAUGHT[0], &[]), Some(true));
-}
-
-/// The lesson of 129 names in turn, twice, writes 130 names, one of them a second time.
-#[test]
-fn names_are_written_and_read(rt: HostRuntime) {
-    let names = Names {
-        written: 130,
-        read: 128,
-    };
-    assert!(rt; names_taught(rt.alloc()) == Some((3_508, names)));
+    assert_eq!(rt; goes_on_after_end(rt.alloc(), &TAUGHT[0], &[]), Some(true));
 }
 
 /// Updates of `lt`, which is like `st` with keys of up to 255 bytes, and of which nothing is known.

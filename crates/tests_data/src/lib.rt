@@ -3,9 +3,9 @@
 #![tactic(auto)]
 
 #[cfg(test)]
-mod bytes;
+mod batches;
 #[cfg(test)]
-mod changes;
+mod bytes;
 #[cfg(test)]
 mod decoders;
 #[cfg(test)]
@@ -29,16 +29,8 @@ mod messages;
 #[cfg(test)]
 mod plans;
 #[cfg(test)]
-mod prices;
-#[cfg(test)]
 mod rates;
 #[cfg(test)]
 mod rows;
 #[cfg(test)]
 mod slots;
-#[cfg(test)]
-mod tables;
-#[cfg(test)]
-mod tolerant_readers;
-#[cfg(test)]
-mod words;

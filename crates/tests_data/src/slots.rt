@@ -1,11 +1,6 @@
 //! The slots of the dictionary of server names.
 
-use tests_play_data::slots::{is_copied, returns_the_old_name};
-
-#[test]
-fn a_write_returns_the_old_name(rt: HostRuntime) {
-    assert!(rt; returns_the_old_name(rt.alloc()) == Some(true));
-}
+use tests_play_data::slots::is_copied;
 
 #[test]
 fn a_copy_is_equal(rt: HostRuntime) {

@@ -5,23 +5,10 @@ use peers_engine::{PiecesError, WriteFault};
 use table_types::{DataType, KeyKind, Value};
 use tests_play_data::parts::{KeyParts, KnownParts, T1, TableParts, UpdateParts};
 use tests_play_nodes::devices::{
-    Call, Called, Device, Reading, Writing, breaks_off, first_miscounted, first_misread,
-    first_miswritten,
+    Device, Reading, Writing, breaks_off, first_misread, first_miswritten,
 };
-use tests_play_nodes::fused::{InPieces, Written, fails_after};
+use tests_play_nodes::fused::{InPieces, Written};
 use tests_play_nodes::{Then, fused};
-
-static CALLS: [Called; 4] = [
-    (Call::Read, Some(1), 0),
-    (Call::Read, None, 1),
-    (Call::Write, None, 2),
-    (Call::Flush, None, 3),
-];
-
-#[test]
-fn each_failed_call_is_counted(rt: HostRuntime) {
-    assert_eq!(rt; first_miscounted(1, &CALLS), None);
-}
 
 static READINGS: [Reading; 4] = [
     (Device::Counted(5, Then::Stops), Ok(5), 6),
@@ -78,14 +65,12 @@ update 1 1 30000 7 5
 update 1 2 30000 8 240
 ";
 
+/// The output fails, or takes nothing any more.
 #[test]
-fn an_output_that_fails_in_mid_stream(rt: HostRuntime) {
-    assert!(rt; breaks_off(rt.alloc(), TWO_UPDATES, 20, Then::Fails));
-}
-
-#[test]
-fn an_output_that_stops_in_mid_stream(rt: HostRuntime) {
-    assert!(rt; breaks_off(rt.alloc(), TWO_UPDATES, 20, Then::Stops));
+fn an_output_that_breaks_off(rt: HostRuntime) {
+    for then in [Then::Fails, Then::Stops] {
+        assert!(rt; breaks_off(rt.alloc(), TWO_UPDATES, 20, then));
+    }
 }
 
 /// The lesson of these updates, 42 bytes, and its first 20 bytes.
@@ -232,9 +217,4 @@ fn a_lesson_in_pieces_over_a_writer_that_fails(rt: HostRuntime) {
         fused::first_miswritten_in_pieces(rt.alloc(), &IN_PIECES),
         None
     );
-}
-
-#[test]
-fn two_reads_and_then_failures(rt: HostRuntime) {
-    assert!(rt; fails_after(b"abc", 2));
 }

@@ -1,15 +1,11 @@
 //! Examples of sessions and devices that were worked out by hand and that only a call can show: tables of data, and a test for
-//! each. All other examples go through the program (`bin/checks/nodes.sh`).
+//! each. All other examples go through the program (`bin/checks`).
 #![tactic(auto)]
 
-#[cfg(test)]
-mod cuttings;
 #[cfg(test)]
 mod devices;
 #[cfg(test)]
 mod failures;
-#[cfg(test)]
-mod far_sides;
 #[cfg(test)]
 mod gates;
 #[cfg(test)]
@@ -18,10 +14,6 @@ mod hellos;
 mod machine;
 #[cfg(test)]
 mod rounds;
-#[cfg(test)]
-mod standing;
-#[cfg(test)]
-mod staying;
 #[cfg(test)]
 mod turns;
 #[cfg(test)]

@@ -1,4 +1,4 @@
-//! The worker of a round's session at the gate, a round whose threads meet, and rounds that follow one another.
+//! The worker of a round's session at the gate, and a round whose threads meet.
 
 use node_commands::RoundSize;
 use peers_engine::Stage;
@@ -23,17 +23,4 @@ fn the_threads_of_a_round_run_at_once(rt: HostRuntime) {
         rounds: 1,
     };
     assert!(rt; runs_at_once(&rt, rt.alloc(), size, TEXT));
-}
-
-/// What two rounds of two threads that track three times in each print.
-const LATER: &[u8] = b"audit ok\naudit ok\nrow 1 - 1 6\nrow 1 - 2 6\n";
-
-#[test]
-fn a_later_round_goes_on_with_the_table(rt: HostRuntime) {
-    let size = RoundSize {
-        threads: 2,
-        tracks: 3,
-        rounds: 2,
-    };
-    assert!(rt; runs_at_once(&rt, rt.alloc(), size, LATER));
 }

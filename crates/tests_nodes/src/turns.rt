@@ -1,13 +1,11 @@
-//! Turns of one side whose tables aren't what its session shares, or don't fit it; and what other turns begin with.
+//! Turns of one side whose table is full, or in whose table its session isn't open; and what other turns begin with.
 
 use peers_engine::{EngineError, Turned};
 use session_core::{SessionError, State};
-use table_types::{DataType, KeyKind, Value, Version};
-use tests_play_data::parts::{KeyParts, T1, T2, TableParts, UpdateParts};
+use table_types::Value;
+use tests_play_data::parts::{KeyParts, T1, TableParts, UpdateParts};
 use tests_play_nodes::tables::{Role, Tables};
-use tests_play_nodes::turns::{
-    Exchange, Story, comes_true_ahead, first_failing, last_opened_with, writes_once,
-};
+use tests_play_nodes::turns::{Exchange, Story, first_failing, writes_once};
 
 /// The hello of `a` to `b`.
 const HELLO: &[u8] = b"HAProxyS 2.1\nb\na 1 1\n";
@@ -43,36 +41,6 @@ const ROWS: &[UpdateParts] = &[
 ];
 
 const TABLE: &[TableParts] = &[T1];
-
-/// A table with the id and the name of `t1`, and string keys.
-const OF_TEXTS: TableParts = TableParts {
-    id: 1,
-    name: b"t1",
-    kind: KeyKind::String,
-    key_length: 32,
-    expire: 30_000,
-    types: &[(DataType::Gpc0, None)],
-};
-
-/// A table with the id, the name and the keys of `t1`, and a count that may be wider.
-const OF_LONG_COUNTS: TableParts = TableParts {
-    id: 1,
-    name: b"t1",
-    kind: KeyKind::Integer,
-    key_length: 4,
-    expire: 30_000,
-    types: &[(DataType::BytesInCnt, None)],
-};
-
-/// A row with such a count: 2^32.
-const LONG_ROWS: &[UpdateParts] = &[UpdateParts {
-    table: 1,
-    number: 1,
-    life: Some(30_000),
-    key: KeyParts::Int(7),
-    values: &[Value::Count(1 << 32)],
-    name: b"",
-}];
 
 /// `t1` without rows, in which the session is open.
 pub const EMPTY: Tables = Tables {
@@ -110,33 +78,6 @@ const UNOPENED: Tables = Tables {
     are_open: false,
 };
 
-/// `t2` alone, although the session shares `t1`.
-const UNSHARED: Tables = Tables {
-    roster: TABLE,
-    tables: &[T2],
-    rows: &[],
-    are_full: false,
-    are_open: true,
-};
-
-/// A table with string keys in place of `t1`, which the session shares.
-const UNLIKE: Tables = Tables {
-    roster: TABLE,
-    tables: &[OF_TEXTS],
-    rows: &[],
-    are_full: false,
-    are_open: true,
-};
-
-/// A table with a wide count in place of `t1`, which the session shares.
-const TOO_WIDE: Tables = Tables {
-    roster: TABLE,
-    tables: &[OF_LONG_COUNTS],
-    rows: LONG_ROWS,
-    are_full: false,
-    are_open: true,
-};
-
 /// `a` connects.
 pub const SENDS_HELLO: Exchange = Exchange {
     comes: b"",
@@ -145,7 +86,7 @@ pub const SENDS_HELLO: Exchange = Exchange {
 };
 
 /// `a` connects, and asks for all rows.
-pub const OPENING: &[Exchange] = &[
+const OPENING: &[Exchange] = &[
     SENDS_HELLO,
     Exchange {
         comes: b"200\n",
@@ -186,7 +127,7 @@ const STRANGE: Exchange = Exchange {
 };
 
 /// The stories, each with its reason.
-static STORIES: [Story; 5] = [
+static STORIES: [Story; 2] = [
     // The second row finds no room and is passed over.
     Story {
         tables: NARROW,
@@ -205,138 +146,11 @@ static STORIES: [Story; 5] = [
         state: State::Ended,
         rows: &[],
     },
-    // There is no lock for the table from which the turn would copy.
-    Story {
-        tables: UNSHARED,
-        role: Role::Connects,
-        opening: OPENING,
-        turns: &[STRANGE, OVER],
-        state: State::Ended,
-        rows: &[],
-    },
-    // The table has other keys than the session's definition of it, and refuses the first row.
-    Story {
-        tables: UNLIKE,
-        role: Role::Connects,
-        opening: OPENING,
-        turns: &[
-            Exchange {
-                comes: LESSON,
-                sends: b"",
-                ends: Err(EngineError::Strange),
-            },
-            OVER,
-        ],
-        state: State::Ended,
-        rows: &[],
-    },
-    // The table has a row that doesn't fit the session's definition of it, so no lesson is made.
-    Story {
-        tables: TOO_WIDE,
-        role: Role::Accepts,
-        opening: ASKING,
-        turns: &[STRANGE, OVER],
-        state: State::Ended,
-        rows: &[(7, 1 << 32)],
-    },
 ];
 
 #[test]
 fn tables_that_do_not_fit(rt: HostRuntime) {
     assert_eq!(rt; first_failing(&rt, rt.alloc(), &STORIES), None);
-}
-
-/// The seat has seen more events of the table than the table has had.
-static IS_AHEAD: Story = Story {
-    tables: EMPTY,
-    role: Role::Connects,
-    opening: OPENING,
-    turns: &[STRANGE, OVER],
-    state: State::Ended,
-    rows: &[],
-};
-
-#[test]
-fn a_seat_that_is_ahead(rt: HostRuntime) {
-    assert_eq!(rt;
-        comes_true_ahead(&rt, rt.alloc(), &IS_AHEAD, &FILLED),
-        Some(true)
-    );
-}
-
-/// `b` accepts a hello of version 2.0.
-static ACCEPTS_VERSION_20: Story = Story {
-    tables: FILLED,
-    role: Role::Accepts,
-    opening: &[Exchange {
-        comes: b"HAProxyS 2.0\nb\na 1 1\n",
-        sends: b"200\n",
-        ends: Ok(Turned::Going),
-    }],
-    turns: &[],
-    state: State::Ready,
-    rows: &[(7, 5), (8, 240)],
-};
-
-/// It accepts one of version 2.1, and the request that follows it.
-static ACCEPTS_VERSION_21: Story = Story {
-    tables: FILLED,
-    role: Role::Accepts,
-    opening: ASKING,
-    turns: &[],
-    state: State::Teaching,
-    rows: &[(7, 5), (8, 240)],
-};
-
-/// The version with which the session is reopened in the table. No byte shows that yet.
-#[test]
-fn versions_of_reopened_sessions(rt: HostRuntime) {
-    assert_eq!(rt;
-        last_opened_with(&rt, rt.alloc(), &ACCEPTS_VERSION_20),
-        Some(Version::V20)
-    );
-    assert_eq!(rt;
-        last_opened_with(&rt, rt.alloc(), &ACCEPTS_VERSION_21),
-        Some(Version::V21)
-    );
-}
-
-/// A session of version 2.0 teaches the two rows without a life, and ends the resync once they are acknowledged.
-static TEACHES_IN_VERSION_20: [Story; 1] = [Story {
-    tables: FILLED,
-    role: Role::Accepts,
-    opening: &[Exchange {
-        comes: b"HAProxyS 2.0\nb\na 1 1\n\x00\x00",
-        sends: b"200\n",
-        ends: Ok(Turned::Going),
-    }],
-    turns: &[
-        Exchange {
-            comes: b"",
-            sends: b"\x0A\x82\x0A\x01\x02t1\x02\x04\x04\xF0\xC4\x0D\x0A\x80\x09\x00\x00\x00\x01\x00\x00\x00\x07\x05\x0A\x81\x06\x00\x00\x00\x08\xF0\x00",
-            ends: Ok(Turned::Going),
-        },
-        Exchange {
-            comes: TAKEN,
-            sends: b"",
-            ends: Ok(Turned::Going),
-        },
-        Exchange {
-            comes: b"",
-            sends: b"\x00\x01",
-            ends: Ok(Turned::Going),
-        },
-    ],
-    state: State::Ready,
-    rows: &[(7, 5), (8, 240)],
-}];
-
-#[test]
-fn lessons_of_version_20(rt: HostRuntime) {
-    assert_eq!(rt;
-        first_failing(&rt, rt.alloc(), &TEACHES_IN_VERSION_20),
-        None
-    );
 }
 
 /// A HAProxy that gets a hello in pieces doesn't take its version, so it goes out in one write.

@@ -1,45 +1,21 @@
 //! Batches of updates of `t1`, and what they are refused for.
 
-use crate::parts::{T1, UpdateParts, alone, update};
+use crate::parts::{T1, UpdateParts, definition, updates};
 use std::alloc::Global;
-use table_types::{Batch, BatchError, Roster, TableDef, Update};
+use table_types::{Batch, BatchError, TableDef};
 
-/// Updates, how often the list of them is repeated, and what a batch is refused for, if it is.
-pub type Parts = (&'static [UpdateParts], u32, Option<BatchError>);
-
-fn repeated(alloc: Global, given: &[UpdateParts], times: u32) -> Option<Vec<Update>> {
-    let mut updates = Vec::new(alloc);
-    for _ in 0..times {
-        for parts in given {
-            updates.push(update(alloc, parts)?).ok()?;
-        }
-    }
-    Some(updates)
-}
-
-/// Returns whether the updates are refused for their fault as a batch of the roster, or accepted if they have none.
-fn is_right_for_roster(alloc: Global, roster: &Roster, parts: &Parts) -> Option<bool> {
-    let (given, times, fault) = parts;
-    let batch = Batch::new(alloc, roster, repeated(alloc, *given, *times)?);
-    Some(batch.err() == *fault)
-}
+/// Updates, and what a batch of them is refused for, if it is.
+pub type Parts = (&'static [UpdateParts], Option<BatchError>);
 
 /// Returns whether the updates are refused for their fault as a batch of the table, or accepted if they have none.
 fn is_right_for_table(alloc: Global, table: &TableDef, parts: &Parts) -> Option<bool> {
-    let (given, times, fault) = parts;
-    let batch = Batch::of_table(alloc, table, repeated(alloc, *given, *times)?);
+    let (given, fault) = parts;
+    let batch = Batch::of_table(alloc, table, updates(alloc, *given)?);
     Some(batch.err() == *fault)
 }
 
-fn is_right_for_both(alloc: Global, roster: &Roster, parts: &Parts) -> Option<bool> {
-    let for_table = is_right_for_table(alloc, roster.table(T1.id)?, parts)?;
-    Some(for_table && is_right_for_roster(alloc, roster, parts)?)
-}
-
-/// Returns whether the updates are refused for their fault, or accepted if they have none, as a batch of a roster of `t1` alone and
-/// as one of `t1` itself.
 fn is_right(alloc: Global, parts: &Parts) -> Option<bool> {
-    is_right_for_both(alloc, &alone(alloc, &T1)?, parts)
+    is_right_for_table(alloc, &definition(alloc, &T1)?, parts)
 }
 
 /// Returns the index of the first batch that is refused for another fault, or accepted though it has one.

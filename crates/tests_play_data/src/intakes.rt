@@ -1,8 +1,8 @@
 //! Intakes: what they return of a stream, message by message.
 
-use crate::parts::{ST, T1, TableParts, alone, is_called};
-use learner::{Fault, Intake, Taken};
-use peers_msg::{Control, ErrorKind, Message};
+use crate::parts::{T1, alone};
+use learner::{Intake, Taken};
+use peers_msg::{Control, Message};
 use std::alloc::Global;
 use table_types::{Key, Update, Value};
 
@@ -10,56 +10,33 @@ use table_types::{Key, Update, Value};
 pub enum Given {
     /// An update of `t1`: its number, key and value.
     Counted(u32, u32, u64),
-    /// An update of `st` with the name `s1`: its number and key.
-    Named(u32, &'static [u8]),
     Passed,
     Said(Control),
-    Failed(ErrorKind),
-    Acked(u64, u32),
 }
 
-/// A stream, and what an intake of one table returns of it.
+/// A stream, and what an intake of `t1` returns of it.
 pub struct Stream {
-    pub table: TableParts,
     pub parts: &'static [&'static [u8]],
     pub given: &'static [Given],
-    /// The fault that ends the stream, if one does.
-    pub fault: Option<Fault>,
     /// The table and the number of the acknowledgement that is due then.
     pub ack: Option<(u64, u32)>,
 }
 
-/// Returns whether the update is of `table`, and has `number` and a life of 30,000 ms.
-fn is_update(update: &Update, table: u64, number: u32) -> bool {
-    update.table == table && update.number == number && update.life == Some(30_000)
-}
-
-fn is_text(key: &Key, text: &[u8]) -> bool {
-    match key {
-        Key::Str(bytes) => bytes.as_slice() == text,
-        _ => false,
-    }
+/// Returns whether the update is of `t1`, and has `number` and a life of 30,000 ms.
+fn is_update(update: &Update, number: u32) -> bool {
+    update.table == T1.id && update.number == number && update.life == Some(30_000)
 }
 
 fn is_given(taken: &Taken, given: &Given) -> bool {
     match (taken, given) {
         (Taken::Row(update), Given::Counted(number, key, count)) => {
-            is_update(update, T1.id, *number)
+            is_update(update, *number)
                 && update.key == Key::Int(*key)
                 && update.values.as_slice() == [Value::Count(*count)].as_slice()
                 && update.name.is_none()
         }
-        (Taken::Row(update), Given::Named(number, key)) => {
-            is_update(update, ST.id, *number)
-                && is_text(&update.key, *key)
-                && is_called(update.name.as_ref(), b"s1")
-        }
         (Taken::Passed, Given::Passed) => true,
         (Taken::Said(control), Given::Said(expected)) => *control == *expected,
-        (Taken::Failed(kind), Given::Failed(expected)) => *kind == *expected,
-        (Taken::Acked { table, number }, Given::Acked(id, last)) => {
-            *table == *id && *number == *last
-        }
         _ => false,
     }
 }
@@ -72,12 +49,11 @@ fn gives(intake: &mut Intake, given: &Given) -> bool {
     }
 }
 
-/// Returns whether no whole message is left, or `fault` comes if there is one.
-fn is_done(intake: &mut Intake, fault: Option<Fault>) -> bool {
+/// Returns whether no whole message is left.
+fn is_done(intake: &mut Intake) -> bool {
     match intake.next() {
-        Ok(Some(_)) => false,
-        Ok(None) => fault.is_none(),
-        Err(found) => Some(found) == fault,
+        Ok(taken) => taken.is_none(),
+        Err(_) => false,
     }
 }
 
@@ -99,7 +75,7 @@ fn gives_all(intake: &mut Intake, stream: &Stream) -> bool {
             return false;
         }
     }
-    is_done(intake, stream.fault)
+    is_done(intake)
 }
 
 /// Feeds the stream in pieces of `length` bytes.
@@ -117,7 +93,7 @@ fn is_fed(intake: &mut Intake, stream: &Stream, length: usize) -> bool {
 /// Returns whether an intake that is fed the stream in such pieces has no acknowledgement due until it has returned the
 /// messages, and then the one of the stream once.
 fn is_taken(alloc: Global, stream: &Stream, length: usize) -> Option<bool> {
-    let mut intake = Intake::new(alloc, alone(alloc, &stream.table)?);
+    let mut intake = Intake::new(alloc, alone(alloc, &T1)?);
     Some(
         is_fed(&mut intake, stream, length)
             && acknowledges(&mut intake, None)

@@ -1,19 +1,11 @@
-//! Known states: which parts make one, and which messages one accepts.
+//! Known states: which messages one accepts.
 
 use crate::parts::{KnownParts, T1, TableParts, alone, definition, known};
 use dict_slots::Slots;
-use known_state::{Known, KnownError, StepError};
+use known_state::{Known, StepError};
 use peers_msg::{Message, NameField, UpdateMsg};
 use std::alloc::Global;
 use table_types::{Key, ShortList, TableDef, Value};
-
-/// A selected table, the tables defined, the last numbers, and what a state of `t1` with them is refused for, if it is.
-pub type Parts = (
-    Option<u64>,
-    &'static [u64],
-    &'static [(u64, u32)],
-    Option<KnownError>,
-);
 
 /// A message, written in short.
 pub enum Sent {
@@ -21,8 +13,6 @@ pub enum Sent {
     Switch(u64),
     /// An update of an integer key, with its number if it has one.
     Count(Option<u32>),
-    /// An incremental update of an IPv4 address, which fits no table here.
-    Address,
 }
 
 /// A message, why it is refused, if it is, and the table selected and the last number of the roster's table after it.
@@ -31,40 +21,10 @@ pub type Step = (Sent, Option<StepError>, Option<u64>, Option<u32>);
 /// The parts of a state, and messages that come to it one after another.
 pub type Story = (KnownParts, &'static [Step]);
 
-/// Returns what a state of `t1` is refused for, if it is; `None` if memory runs out.
-fn build_fault(
-    alloc: Global,
-    selected: Option<u64>,
-    defined: &[u64],
-    last: &[(u64, u32)],
-) -> Option<Option<KnownError>> {
-    let roster = alone(alloc, &T1)?;
-    let defined = Vec::from_slice(alloc, defined).ok()?;
-    let last = Vec::from_slice(alloc, last).ok()?;
-    Some(Known::build(alloc, roster, selected, defined, last, Slots::new(alloc)).err())
-}
-
-/// Returns the index of the first parts that are refused for another fault, or accepted though they have one.
-pub fn first_refused_otherwise(alloc: Global, all: &[Parts]) -> Option<usize> {
-    for (place, (selected, defined, last, fault)) in all.iter().enumerate() {
-        if build_fault(alloc, *selected, *defined, *last) != Some(*fault) {
-            return Some(place);
-        }
-    }
-    None
-}
-
 fn count(alloc: Global, number: Option<u32>) -> Option<Message> {
     let values = ShortList::from_slice(alloc, &[Value::Count(5)]).ok()?;
     let key = Key::Int(7);
     let update = UpdateMsg::new(number, Some(30_000), key, values, NameField::NotStored);
-    Some(Message::Update(update))
-}
-
-fn address(alloc: Global) -> Option<Message> {
-    let values = ShortList::from_slice(alloc, &[Value::Count(5)]).ok()?;
-    let key = Key::Ip4([127, 0, 0, 1]);
-    let update = UpdateMsg::new(None, Some(30_000), key, values, NameField::NotStored);
     Some(Message::Update(update))
 }
 
@@ -73,7 +33,6 @@ fn message(alloc: Global, sent: &Sent) -> Option<Message> {
         Sent::Define(table) => Some(Message::Define(definition(alloc, table)?)),
         Sent::Switch(id) => Some(Message::Switch(*id)),
         Sent::Count(number) => count(alloc, *number),
-        Sent::Address => address(alloc),
     }
 }
 

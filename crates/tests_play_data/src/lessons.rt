@@ -53,21 +53,6 @@ fn teaches(alloc: Global, known: &Known, batch: &Batch, taught: &Taught) -> Opti
     Some(is_right(&lesson, taught))
 }
 
-fn is_taught(alloc: Global, taught: &Taught) -> Option<bool> {
-    let (known, batch) = prepared(alloc, &taught.from, taught.updates)?;
-    teaches(alloc, &known, &batch, taught)
-}
-
-/// Returns the index of the first lesson that is another.
-pub fn first_failing(alloc: Global, all: &[Taught]) -> Option<usize> {
-    for (place, taught) in all.iter().enumerate() {
-        if is_taught(alloc, taught) != Some(true) {
-            return Some(place);
-        }
-    }
-    None
-}
-
 /// Teaches a copy of the batch to a learner in a copy of the known state, and returns whether the lesson is right.
 fn teaches_from_copies(alloc: Global, known: &Known, batch: &Batch, taught: &Taught) -> Option<bool>
     requires { IsBatchFor known.now.roster batch.now }
@@ -78,25 +63,19 @@ fn teaches_from_copies(alloc: Global, known: &Known, batch: &Batch, taught: &Tau
 }
 
 /// Returns whether the lesson is right if copies of the known state and of the batch are taught.
-pub fn is_taught_from_copies(alloc: Global, taught: &Taught) -> Option<bool> {
+fn is_taught(alloc: Global, taught: &Taught) -> Option<bool> {
     let (known, batch) = prepared(alloc, &taught.from, taught.updates)?;
     teaches_from_copies(alloc, &known, &batch, taught)
 }
 
-/// Teaches the batch, a second time if memory runs out for the lesson, and returns whether the lesson is right.
-fn teaches_at_last(alloc: Global, known: &Known, batch: &Batch, taught: &Taught) -> bool
-    requires { IsBatchFor known.now.roster batch.now }
-{
-    match teaches(alloc, known, batch, taught) {
-        Some(right) => right,
-        None => teaches(alloc, known, batch, taught) == Some(true),
+/// Returns the index of the first lesson that is another.
+pub fn first_failing(alloc: Global, all: &[Taught]) -> Option<usize> {
+    for (place, taught) in all.iter().enumerate() {
+        if is_taught(alloc, taught) != Some(true) {
+            return Some(place);
+        }
     }
-}
-
-/// Returns whether the lesson is right, taught a second time if memory ran out for it; `None` if memory ran out before.
-pub fn is_taught_again(alloc: Global, taught: &Taught) -> Option<bool> {
-    let (known, batch) = prepared(alloc, &taught.from, taught.updates)?;
-    Some(teaches_at_last(alloc, &known, &batch, taught))
+    None
 }
 
 /// Returns whether the next piece is these bytes.
@@ -163,7 +142,7 @@ fn handed_back(mut pieces: Pieces, first: &[u8]) -> Option<Pieces> {
 /// one too.
 fn goes_on(pieces: Pieces, taught: &Taught, sizes: &[usize]) -> bool {
     let Some((first, sizes)) = sizes.split_first() else {
-        return false;
+        return ends_after_none(pieces, taught);
     };
     let (first, rest) = taught.bytes.split_at((*first).min(taught.bytes.len()));
     match handed_back(pieces, first) {
@@ -173,57 +152,6 @@ fn goes_on(pieces: Pieces, taught: &Taught, sizes: &[usize]) -> bool {
         }
         None => false,
     }
-}
-
-/// Returns whether messages of these sizes, one after another, end at these places.
-fn are_ends(places: &[usize], sizes: &[usize]) -> bool {
-    let mut end: usize = 0;
-    for (place, size) in places.iter().zip(sizes) {
-        end = end.saturating_add(*size);
-        if *place != end {
-            return false;
-        }
-    }
-    places.len() == sizes.len()
-}
-
-/// Teaches the batch, and returns whether the lesson follows a plan that keeps these requests, and knows that its messages have
-/// these sizes.
-fn is_planned(
-    alloc: Global,
-    known: &Known,
-    batch: &Batch,
-    keep: &[bool],
-    sizes: &[usize],
-) -> Option<bool>
-    requires { IsBatchFor known.now.roster batch.now }
-{
-    let lesson = teach(alloc, known, batch).ok()?;
-    Some(lesson.keep.as_slice() == keep && are_ends(lesson.ends.as_slice(), sizes))
-}
-
-/// Returns what `comes_in_pieces` does, for this known state and this batch.
-fn is_cut(
-    alloc: Global,
-    known: &Known,
-    batch: &Batch,
-    taught: &Taught,
-    sizes: &[usize],
-) -> Option<bool>
-    requires { IsBatchFor known.now.roster batch.now }
-{
-    let mut pieces = Pieces::new(alloc, known, batch).ok()?;
-    let planned = is_planned(alloc, known, batch, pieces.keep(), sizes);
-    let given = gives_all(&mut pieces, taught.bytes, sizes);
-    let ended = ends_after_none(pieces, taught);
-    Some(planned? && given && ended)
-}
-
-/// Returns whether the lesson is right, comes in pieces of these sizes and by the plan that it names, and knows that its
-/// messages end where they do.
-pub fn comes_in_pieces(alloc: Global, taught: &Taught, sizes: &[usize]) -> Option<bool> {
-    let (known, batch) = prepared(alloc, &taught.from, taught.updates)?;
-    is_cut(alloc, &known, &batch, taught, sizes)
 }
 
 /// Returns whether the lesson comes in pieces of these sizes although `end` is called after the first one, and hands the pieces

@@ -4,10 +4,8 @@
 #![tactic(auto)]
 
 pub mod batches;
-pub mod changes;
 pub mod cyclic_names;
 pub mod decoders;
-pub mod definitions;
 pub mod exchanges;
 pub mod growth;
 pub mod intakes;
@@ -20,9 +18,6 @@ pub mod messages;
 pub mod outcomes;
 pub mod parts;
 pub mod plans;
-pub mod prices;
 pub mod rates;
-pub mod rosters;
 pub mod rows;
 pub mod slots;
-pub mod words;

@@ -25,32 +25,6 @@ pub struct Story {
     pub kept: &'static [usize],
 }
 
-/// How many bytes a read of a name saves.
-#[derive(Clone, Copy, Debug)]
-pub enum Saving {
-    /// This many, whichever name it is.
-    Each(u32),
-    /// As many as the number of the name, from 1.
-    Rising,
-}
-
-/// Requests for names in turn, with 128 empty slots.
-pub struct InTurn {
-    /// How many names there are.
-    pub names: u32,
-    /// How many requests for them.
-    pub requests: u32,
-    pub saving: Saving,
-    /// How many bytes a read of one more name saves, if there is one. It is requested before all others, and after them.
-    pub around: Option<u32>,
-    /// How many requests both planners keep.
-    pub count: usize,
-    /// How many bytes these save.
-    pub saved: u64,
-    /// The first and the last place of each run of requests that they keep, if they are known.
-    pub runs: Option<&'static [(usize, usize)]>,
-}
-
 /// The names and the requests of a case.
 #[derive(Drop)]
 pub(crate) struct Requested {
@@ -180,88 +154,6 @@ pub fn first_failing(alloc: Global, stories: &[Story]) -> Option<(usize, usize)>
     None
 }
 
-/// Returns the plan, made a second time if memory ran out for it.
-fn planned_at_last(alloc: Global, slots: usize, asked: &Requested) -> Option<Plan> {
-    match planned(alloc, slots, asked) {
-        Ok(plan) => Some(plan),
-        Err(PlanError::Memory) => planned(alloc, slots, asked).ok(),
-    }
-}
-
-fn keeps_at_last(alloc: Global, story: &Story, asked: &Requested) -> bool {
-    match planned_at_last(alloc, story.case.slots, asked) {
-        Some(plan) => keeps(&plan, story.kept),
-        None => false,
-    }
-}
-
-/// Returns whether `plan` keeps the requests of the story, asked a second time if memory ran out for the plan; `None` if memory
-/// ran out before.
-pub fn is_planned_again(alloc: Global, story: &Story) -> Option<bool> {
-    Some(keeps_at_last(alloc, story, &asked(alloc, &story.case)?))
-}
-
-/// Makes a request for a name, of which a read saves this many bytes.
-fn request(alloc: Global, name: &[u8], saving: u32) -> Option<Request> {
-    Request::new(named(alloc, name)?, 20, saving.saturating_add(20))
-}
-
-/// Returns three letters for a number below 4,096, others for each.
-fn letters(number: u32) -> [u8; 3] {
-    [
-        b'A' + (number / 256 % 16) as u8,
-        b'A' + (number / 16 % 16) as u8,
-        b'a' + (number % 16) as u8,
-    ]
-}
-
-/// Adds a request for the name around the others, if there is one.
-fn push_around(alloc: Global, around: Option<u32>, requests: &mut Vec<Request>) -> Option<()> {
-    match around {
-        Some(saving) => requests.push(request(alloc, b"around", saving)?).ok(),
-        None => Some(()),
-    }
-}
-
-fn in_turn(alloc: Global, turn: &InTurn) -> Option<Vec<Request>> {
-    let names = turn.names;
-    if names == 0 {
-        return None;
-    }
-    let mut requests = Vec::new(alloc);
-    push_around(alloc, turn.around, &mut requests)?;
-    for index in 0..turn.requests {
-        let number = index % names;
-        let saving = match turn.saving {
-            Saving::Each(saving) => saving,
-            Saving::Rising => number.saturating_add(1),
-        };
-        let name = letters(number);
-        requests.push(request(alloc, &name, saving)?).ok()?;
-    }
-    push_around(alloc, turn.around, &mut requests)?;
-    Some(requests)
-}
-
-/// Makes the requests of `turn`, with no name held.
-fn asked_in_turn(alloc: Global, turn: &InTurn) -> Option<Requested> {
-    Some(Requested {
-        held: Vec::new(alloc),
-        requests: in_turn(alloc, turn)?,
-    })
-}
-
-/// Returns how many requests the plan keeps.
-fn count_of(plan: &Plan) -> usize {
-    let mut count: usize = 0;
-    for keep in plan.keep() {
-        if *keep {
-            count = count.saturating_add(1);
-        }
-    }
-    count
-}
-
 /// Returns how many bytes the requests save that the plan keeps.
 pub(crate) fn saved_by(plan: &Plan, asked: &Requested) -> u64 {
     let mut saved: u64 = 0;
@@ -272,54 +164,4 @@ pub(crate) fn saved_by(plan: &Plan, asked: &Requested) -> u64 {
         }
     }
     saved
-}
-
-fn is_in(place: usize, runs: &[(usize, usize)]) -> bool {
-    for (first, last) in runs {
-        if *first <= place && place <= *last {
-            return true;
-        }
-    }
-    false
-}
-
-/// Returns whether the plan keeps the requests of these runs and no other.
-fn keeps_runs(plan: &Plan, runs: &[(usize, usize)]) -> bool {
-    for (index, keep) in plan.keep().iter().enumerate() {
-        if *keep != is_in(index + 1, runs) {
-            return false;
-        }
-    }
-    true
-}
-
-fn is_kept(plan: &Plan, turn: &InTurn) -> bool {
-    count_of(plan) == turn.count
-        && match turn.runs {
-            Some(runs) => keeps_runs(plan, runs),
-            None => true,
-        }
-}
-
-/// Returns whether the plan keeps and saves what it should, and the checker accepts it.
-fn is_right_in_turn(asked: &Requested, turn: &InTurn, plan: &Plan) -> Option<bool> {
-    let saved = saved_by(plan, asked);
-    Some(is_kept(plan, turn) && saved == turn.saved && is_accepted(128, asked, plan)?)
-}
-
-fn is_planned_in_turn(alloc: Global, turn: &InTurn) -> Option<bool> {
-    let asked = asked_in_turn(alloc, turn)?;
-    let made = planned(alloc, 128, &asked).ok()?;
-    let by_cycles = planned_by_cycles(alloc, 128, &asked).ok()?;
-    Some(is_right_in_turn(&asked, turn, &made)? && is_right_in_turn(&asked, turn, &by_cycles)?)
-}
-
-/// Returns the index of the first of these for which a planner keeps other requests, or the checker refuses its plan.
-pub fn first_failing_in_turn(alloc: Global, turns: &[InTurn]) -> Option<usize> {
-    for (place, turn) in turns.iter().enumerate() {
-        if is_planned_in_turn(alloc, turn) != Some(true) {
-            return Some(place);
-        }
-    }
-    None
 }

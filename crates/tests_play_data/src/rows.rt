@@ -1,47 +1,8 @@
-//! Keys, updates, and the rows that updates teach.
+//! The rows that updates teach.
 
-use crate::parts::{KeyParts, UpdateParts, is_called, key, update};
+use crate::parts::{KeyParts, UpdateParts, is_called, update};
 use std::alloc::Global;
-use table_types::{Cell, Key, Moment, Row, Update, Value};
-
-fn is_below(alloc: Global, one: &KeyParts, other: &KeyParts) -> Option<bool> {
-    let one = key(alloc, one)?;
-    Some(one < key(alloc, other)?)
-}
-
-/// Returns the indices of the first two of `keys` whose order is another than that of their places.
-pub fn first_out_of_order(alloc: Global, keys: &[KeyParts]) -> Option<(usize, usize)> {
-    for (place, one) in keys.iter().enumerate() {
-        for (other_place, other) in keys.iter().enumerate() {
-            if is_below(alloc, one, other) != Some(place < other_place) {
-                return Some((place, other_place));
-            }
-        }
-    }
-    None
-}
-
-/// Returns whether a copy is the same update, and is another once its name is removed.
-fn is_copied(alloc: Global, one: &Update) -> Option<bool> {
-    let mut copy = one.copy(alloc).ok()?;
-    let same = copy.is_same(one);
-    copy.name = None;
-    Some(same && !copy.is_same(one))
-}
-
-fn update_is_copied(alloc: Global, parts: &UpdateParts) -> Option<bool> {
-    is_copied(alloc, &update(alloc, parts)?)
-}
-
-/// Returns the index of the first update whose copy isn't the same, or is still the same once its name is removed.
-pub fn first_miscopied(alloc: Global, updates: &[UpdateParts]) -> Option<usize> {
-    for (place, parts) in updates.iter().enumerate() {
-        if update_is_copied(alloc, parts) != Some(true) {
-            return Some(place);
-        }
-    }
-    None
-}
+use table_types::{Cell, Key, Moment, Row, Value};
 
 /// An update of key 7 with a count and a rate.
 static TAUGHT: UpdateParts = UpdateParts {
@@ -90,18 +51,12 @@ fn is_learned(row: &Row, learned: &Learned) -> bool {
         && row.is_learned()
 }
 
-/// Returns whether the row was learned so at `key`, and so was a copy of it.
-fn is_learned_at(alloc: Global, key: &Key, row: &Row, learned: &Learned) -> Option<bool> {
-    let copy = row.copy(alloc).ok()?;
-    Some(key.is_same(&Key::Int(7)) && is_learned(row, learned) && is_learned(&copy, learned))
-}
-
 fn are_learned(alloc: Global, learned: &Learned) -> Option<bool> {
     let moment = Moment::new(learned.moment)?;
     let mut taught = update(alloc, &TAUGHT)?;
     taught.life = learned.life;
     let (key, row) = Row::learned(alloc, taught, learned.expire, moment).ok()?;
-    is_learned_at(alloc, &key, &row, learned)
+    Some(key.is_same(&Key::Int(7)) && is_learned(&row, learned))
 }
 
 /// Returns the index of the first row that is learned differently.

@@ -10,13 +10,7 @@ use Rattle.std.specs.contracts.option.Option as Option
 use Rattle.table_shards.specs.contracts.seat.Seat as Seat
 use Rattle.table_shards.proofs.Crosses.{seat_send}
 
--- a closure of six captures
-pub six_send : (name : Sym) (A B C D E F : RattleType) → IsSend A → IsSend B → IsSend C → IsSend D → IsSend E → IsSend F → IsSend (TupleAt name (A ∷ B ∷ C ∷ D ∷ E ∷ F ∷ []))
-six_send name A B C D E F a b c d e f =
-    declared_send (type_at name (A ∷ B ∷ C ∷ D ∷ E ∷ F ∷ []))
-    (as_row_send (row_field A) a, (as_row_send (row_field B) b, (as_row_send (row_field C) c, (as_row_send (row_field D) d, (as_row_send (row_field E) e, (as_row_send (row_field F) f, tt))))))
-
--- the same of five
+-- a closure of five captures
 pub five_send : (name : Sym) (A B C D E : RattleType) → IsSend A → IsSend B → IsSend C → IsSend D → IsSend E → IsSend (TupleAt name (A ∷ B ∷ C ∷ D ∷ E ∷ []))
 five_send name A B C D E a b c d e =
     declared_send (type_at name (A ∷ B ∷ C ∷ D ∷ E ∷ []))

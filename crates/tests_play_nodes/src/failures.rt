@@ -1,4 +1,4 @@
-//! Turns of one side over a device that fails, and over streams that break the rules.
+//! Turns of one side over a device that fails.
 
 use crate::lasting::Lasting;
 use crate::sides::Side;
@@ -198,55 +198,6 @@ pub fn first_cut_otherwise<H: Wait>(rt: &H, alloc: Global, lesson: &Lesson) -> O
     for room in 0..lesson.bytes.len() {
         if ends_at(rt, alloc, lesson, room) != Some(true) {
             return Some(room);
-        }
-    }
-    None
-}
-
-/// A stream that comes in one turn, and what the side sends in it: an error message, with which it ends, or nothing, and then it goes on.
-pub type Hostile = (&'static [u8], &'static [u8]);
-
-/// A side, the streams that come to it, each to a new one, and the turn of a session that is over.
-pub struct Attack {
-    pub story: Story,
-    pub streams: &'static [Hostile],
-    pub over: Exchange,
-}
-
-/// Returns whether the side answers the stream as it says.
-fn is_answered<H: Wait>(
-    rt: &H,
-    alloc: Global,
-    side: &mut Side,
-    attack: &Attack,
-    stream: &Hostile,
-) -> Option<bool> {
-    let (comes, sends) = *stream;
-    let ends = if sends.is_empty() {
-        Turned::Going
-    } else {
-        Turned::Closed
-    };
-    let turn = Exchange {
-        comes,
-        sends,
-        ends: Ok(ends),
-    };
-    let answered = is_lived(rt, alloc, side, &attack.story)? && is_so(rt, alloc, side, &turn);
-    Some(answered && (ends == Turned::Going || is_over(rt, alloc, side, &attack.over)))
-}
-
-/// Answers the stream with a new side.
-fn answers<H: Wait>(rt: &H, alloc: Global, attack: &Attack, stream: &Hostile) -> Option<bool> {
-    let mut side = attack.story.tables.side(alloc, attack.story.role)?;
-    is_answered(rt, alloc, &mut side, attack, stream)
-}
-
-/// Returns the index of the first stream to which the side doesn't send what it should.
-pub fn first_answered_otherwise<H: Wait>(rt: &H, alloc: Global, attack: &Attack) -> Option<usize> {
-    for (place, stream) in attack.streams.iter().enumerate() {
-        if answers(rt, alloc, attack, stream) != Some(true) {
-            return Some(place);
         }
     }
     None

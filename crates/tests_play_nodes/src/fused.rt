@@ -1,11 +1,8 @@
-//! Devices that fail after some calls, for tests of other crates.
+//! Lessons that are written to a device that fails after some bytes.
 
-use peers_devices::{Counting, Faults, Writes};
-use peers_engine::{
-    Fused, PiecesError, WriteFault, write_lesson, write_pieces, write_pieces_counted,
-};
+use peers_devices::{Counting, Faults};
+use peers_engine::{Fused, PiecesError, WriteFault, write_lesson, write_pieces};
 use std::alloc::Global;
-use std::io::Read;
 use table_types::Batch;
 use teach_writer::Pieces;
 use tests_play_data::parts::{KnownParts, UpdateParts, known, updates};
@@ -54,17 +51,7 @@ fn is_written_in_pieces(alloc: Global, row: &InPieces) -> Option<bool> {
     let mut output = Counting::new(Fused::new(Vec::new(alloc), row.room));
     let error = write_pieces(alloc, &mut output, pieces).err();
     let bytes = output.into_inner().into_inner();
-    let pieces = Pieces::new(alloc, &known, &batch).ok()?;
-    let mut writes = Writes::none();
-    let mut counted = Counting::new(Fused::new(Vec::new(alloc), row.room));
-    let counted_error = write_pieces_counted(alloc, &mut counted, &mut writes, 0, pieces).err();
-    Some(
-        error == row.error
-            && counted_error == row.error
-            && writes.taken() == row.count as u64
-            && bytes.len() == row.count
-            && bytes.starts_with(row.first),
-    )
+    Some(error == row.error && bytes.len() == row.count && bytes.starts_with(row.first))
 }
 
 /// Writes the lessons in pieces. Returns the index of the first that fails.
@@ -75,17 +62,4 @@ pub fn first_miswritten_in_pieces(alloc: Global, rows: &[InPieces]) -> Option<us
         }
     }
     None
-}
-
-/// Returns whether a reader gives the first of `bytes` in `reads` reads of a byte, and then fails twice, and both failures are
-/// counted.
-pub fn fails_after(bytes: &[u8], reads: usize) -> bool {
-    let mut input = Counting::new(Fused::new(bytes, reads));
-    let mut byte = [0];
-    for place in 0..reads {
-        if input.read(&mut byte).ok() != Some(1) || bytes.get(place) != Some(&byte[0]) {
-            return false;
-        }
-    }
-    input.read(&mut byte).is_err() && input.read(&mut byte).is_err() && input.failures() == 2
 }

@@ -1,6 +1,5 @@
 //! Hellos and statuses, at the peer `b`, which knows the peer `a`.
 
-use crate::sessions::hello;
 use peers_hello::{Answer, Hello, Status, read_status};
 use std::alloc::Global;
 use table_types::Version;
@@ -41,15 +40,6 @@ pub fn first_misread(alloc: Global, hellos: &[(&[u8], Answered)]) -> Option<usiz
         }
     }
     None
-}
-
-fn written(alloc: Global, version: Version) -> Option<Vec<u8>> {
-    hello(alloc, version)?.write(alloc).ok()
-}
-
-/// Returns whether the hello of `a` to `b` is written so, with this version.
-pub fn is_written(alloc: Global, version: Version, bytes: &[u8]) -> bool {
-    written(alloc, version).is_some_and(|text| text.as_slice() == bytes)
 }
 
 /// Reads the statuses. Returns the index of the first that is another.

@@ -7,23 +7,15 @@ use learner::Fault;
 use peers_msg::ErrorKind;
 pub use player::first_failing;
 use session_core::State;
-use table_types::{CopyKind, Settled, Version};
+use table_types::{CopyKind, Version};
 
 /// An event.
 pub enum Given {
     Opened,
     Bytes(&'static [u8]),
     End,
-    ReadFault,
     Turn,
-    /// A batch of the table with this id, always the same: key 7 of `t1` has 5.
-    Copied(u64),
     Nothing(u64),
-    /// With what `b` knows after that batch.
-    Written,
-    WriteFault,
-    Settled(u64, Settled),
-    Refused(u64),
 }
 
 /// An action.
@@ -31,10 +23,8 @@ pub enum Asked {
     Send(&'static [u8]),
     /// A table, and the number of its update.
     Learn(u64, u32),
-    Ack(u64, u32),
     Reopen(u64),
     Copy(u64, CopyKind),
-    Teach,
     Part(ErrorKind),
     Close,
 }
@@ -48,10 +38,8 @@ pub enum After {
     /// It has confirmed the end of the other's resync.
     Confirmed,
     Fault(Fault),
-    /// It speaks this version, if any, and didn't fall back.
-    Speaks(Option<Version>),
-    /// It speaks no version, since it fell back.
-    FellBack,
+    /// It speaks this version.
+    Speaks(Version),
     /// It is over, and refuses a turn as that.
     Over,
     /// It refuses the event as unasked, and is over.
@@ -62,14 +50,8 @@ pub enum After {
 pub enum Peer {
     /// That of `a`, which connects to `b`, shares `t1` with it, and isn't up to date.
     Connector,
-    /// That of an `a` that shares `t1` and `st`, and is up to date.
-    ConnectorOfTwoTables,
-    /// The same, of an `a` that says version 2.0.
-    ConnectorOfVersion20,
     /// That of `b`, to which `a` connects, and which shares `t1` with it.
     Acceptor { up_to_date: bool },
-    /// That of a `b` that shares `t1` and `st`, and is up to date.
-    AcceptorOfTwoTables,
 }
 
 /// A session, its steps in runs, and what it says of itself after them: it is played anew for each of these.

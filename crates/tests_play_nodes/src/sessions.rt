@@ -15,32 +15,22 @@ pub(crate) fn roster(alloc: Global, tables: &[TableParts]) -> Option<Roster> {
     Roster::new(definitions).ok()
 }
 
-/// Makes the hello of `a` to `b`, with this version.
-pub(crate) fn hello(alloc: Global, version: Version) -> Option<Hello> {
+/// Makes the hello of `a` to `b`.
+fn hello(alloc: Global) -> Option<Hello> {
     let (remote, local) = named(alloc, b"b").zip(named(alloc, b"a"))?;
     Some(Hello {
         remote,
         local,
         pid: 1,
         relative: 1,
-        version,
+        version: Version::V21,
     })
 }
 
-/// Makes the session of `a`, which connects to `b` and says this version.
-pub(crate) fn connecting_with(
-    alloc: Global,
-    version: Version,
-    roster: Roster,
-    up_to_date: bool,
-) -> Option<Session> {
-    let (hello, roster) = hello(alloc, version).zip(Some(roster))?;
+/// Makes the session of `a`, which connects to `b`.
+pub(crate) fn connecting(alloc: Global, roster: Roster, up_to_date: bool) -> Option<Session> {
+    let (hello, roster) = hello(alloc).zip(Some(roster))?;
     Session::connect(alloc, hello, roster, up_to_date).ok()
-}
-
-/// Makes the session of `a`, which connects to `b` and says version 2.1.
-pub fn connecting(alloc: Global, roster: Roster, up_to_date: bool) -> Option<Session> {
-    connecting_with(alloc, Version::V21, roster, up_to_date)
 }
 
 /// Makes the list of the peers that `b` knows: `a` alone.
@@ -49,7 +39,7 @@ fn peers(alloc: Global) -> Option<Vec<Name>> {
 }
 
 /// Makes the session of `b`, to which `a` connects.
-pub fn accepting(alloc: Global, roster: Roster, up_to_date: bool) -> Option<Session> {
+pub(crate) fn accepting(alloc: Global, roster: Roster, up_to_date: bool) -> Option<Session> {
     let names = named(alloc, b"b").zip(peers(alloc));
     let ((own, peers), roster) = names.zip(Some(roster))?;
     Session::accept(alloc, own, peers, roster, up_to_date).ok()

@@ -9,12 +9,12 @@ use table_shards::{Seat, Shards};
 use table_types::{Key, Moment, Row};
 
 /// The number of the session in the tables of its side.
-pub const SESSION: u32 = 1;
+pub(crate) const SESSION: u32 = 1;
 
 /// One side of a session: the session at work, its tables under their locks, and a seat for another thread, which is `None` while a
 /// call uses it.
 #[derive(Drop)]
-pub struct Side {
+pub(crate) struct Side {
     pub worker: Worker,
     pub shards: Shards,
     pub other: Option<Seat>,

@@ -4,17 +4,14 @@ use crate::sides::{Side, rows};
 use crate::tables::{Role, Tables};
 use crate::waiting::Waiting;
 use crate::whole::Whole;
-use node_commands::track_all;
 use peers_devices::{Counting, Faults};
 use peers_engine::{AlwaysOpen, EngineError, Turned};
 use session_core::State;
 use std::alloc::Global;
 use std::io::Read;
-use std::mem;
 use std::sync::Wait;
-use table_cell::CellEvent;
 use table_shards::Shards;
-use table_types::{Cell, Key, Row, Version};
+use table_types::{Cell, Key, Row};
 
 /// A turn: the bytes that have come before it, those that the side sends in it, and how it ends.
 #[derive(Drop)]
@@ -137,51 +134,4 @@ pub fn first_failing<H: Wait>(rt: &H, alloc: Global, stories: &[Story]) -> Optio
         }
     }
     None
-}
-
-/// Returns the version with which the last event of `t1` opened the session, or `None` if that event opened none.
-fn last_opened<H: Wait>(rt: &H, shards: &Shards) -> Option<Version> {
-    let locked = shards.cell(1)?.lock(rt);
-    let cell = locked.cell();
-    match cell.event_at(cell.events()) {
-        Some((CellEvent::Open { version, .. }, _)) => Some(*version),
-        _ => None,
-    }
-}
-
-/// Plays a story with a new side, and returns the version with which the last event of `t1` opened the session. Returns `None` if the
-/// story fails, or if that event opened no session.
-pub fn last_opened_with<H: Wait>(rt: &H, alloc: Global, story: &Story) -> Option<Version> {
-    let mut side = story.tables.side(alloc, story.role)?;
-    if is_lived(rt, alloc, &mut side, story)? {
-        last_opened(rt, &side.shards)
-    } else {
-        None
-    }
-}
-
-/// Gives the side the seat from which `t1` of another side was changed, and returns whether the story goes as it says.
-fn is_lived_from<H: Wait>(
-    rt: &H,
-    alloc: Global,
-    side: &mut Side,
-    elsewhere: &mut Side,
-    story: &Story,
-) -> Option<bool> {
-    let tracked = track_all(rt, &elsewhere.shards, &mut elsewhere.worker.seat, 9, 1);
-    mem::swap(&mut side.worker.seat, &mut elsewhere.worker.seat);
-    Some(tracked.is_ok() && is_lived(rt, alloc, side, story)?)
-}
-
-/// Returns whether a story goes as it says with a new side whose seat has seen more events of `t1` than the side's own `t1` has had:
-/// it changed that of a side with the tables of `other`.
-pub fn comes_true_ahead<H: Wait>(
-    rt: &H,
-    alloc: Global,
-    story: &Story,
-    other: &Tables,
-) -> Option<bool> {
-    let mut side = story.tables.side(alloc, story.role)?;
-    let mut elsewhere = other.side(alloc, story.role)?;
-    is_lived_from(rt, alloc, &mut side, &mut elsewhere, story)
 }

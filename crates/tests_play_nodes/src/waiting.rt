@@ -19,11 +19,6 @@ impl<'a> Waiting<Fused<&'a [u8]>> {
             inner: Fused::new(bytes, reads),
         }
     }
-
-    /// Returns the number of bytes that weren't read.
-    pub(crate) fn left(self) -> usize {
-        self.inner.into_inner().len()
-    }
 }
 
 impl<R> Faults for Waiting<R> {

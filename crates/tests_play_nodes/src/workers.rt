@@ -1,7 +1,7 @@
-//! Turns of a worker, which owns its seat, and of the function `turn`, which takes a seat and returns it.
+//! Turns of the function `turn`, which takes a seat and returns it.
 
 use crate::sides::{SESSION, Side};
-use crate::turns::{Exchange, Story, is_lived};
+use crate::turns::{Exchange, Story};
 use crate::waiting::Waiting;
 use peers_devices::Counting;
 use peers_engine::{AlwaysOpen, turn};
@@ -9,16 +9,6 @@ use std::alloc::Global;
 use std::sync::Wait;
 use table_shards::Seat;
 use table_types::Moment;
-
-/// Returns the number of receipts of `t1` that a worker's seat has after a story, or `None` if the story doesn't go as it says.
-pub fn receipts_of_worker<H: Wait>(rt: &H, alloc: Global, story: &Story) -> Option<usize> {
-    let mut side = story.tables.side(alloc, story.role)?;
-    if is_lived(rt, alloc, &mut side, story)? {
-        Some(side.worker.seat.receipts(1).len())
-    } else {
-        None
-    }
-}
 
 /// Takes a turn of the side's session at the least moment, from a seat that it returns. Returns whether the turn goes as it says.
 fn handed<H: Wait>(

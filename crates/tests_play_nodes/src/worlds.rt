@@ -1,4 +1,4 @@
-//! Worlds of `t1` and one session: what steps leave in the lists of the session, on its way, at its learner, and in what the teacher
+//! A world of `t1` and one session: what steps leave in the lists of the session, on its way, at its learner, and in what the teacher
 //! knows of that.
 
 ghost use Rattle.std.specs.Prelude.{◌≡◌, IfSome, length};
@@ -11,21 +11,16 @@ use table_types::{
     Batch, Cell, Change, CopyKind, DataType, Key, Moment, Row, Update, Value, Version,
 };
 use tests_play_data::known_states::{are_same, known_of_t1};
-use tests_play_data::parts::{KeyParts, T1, UpdateParts, definition, update};
+use tests_play_data::parts::{T1, definition};
 
 /// The number of the session.
 const SESSION: u32 = 1;
-
-/// A session that isn't there.
-const STRANGER: u32 = 9;
 
 /// A step of `t1` and session 1 at the least moment.
 #[derive(Clone, Copy, Debug)]
 pub enum Short {
     /// The teacher adds to the count of a key.
     Track(u32, u64),
-    /// The teacher's table learns number 9: a count for a key, with a life of 30 s.
-    Learn(u32, u64),
     Copy(CopyKind),
     Teach,
     /// This many bytes arrive at the learner.
@@ -33,10 +28,6 @@ pub enum Short {
     /// This many bytes arrive at the teacher.
     ToTeacher(usize),
     Ack,
-    Break,
-    Reopen,
-    /// The connection of a session that isn't there breaks.
-    BreakAnother,
 }
 
 /// An update of `t1`: its number, its life, its key and its count.
@@ -64,37 +55,6 @@ pub struct Seen {
 /// Steps, and what there is after them.
 pub type Part = (&'static [Short], Seen);
 
-/// Steps in parts, in a new world.
-pub struct Story {
-    /// The version of the session.
-    pub version: Version,
-    /// How often 1 was added to key 1 before the session was opened.
-    pub added: u32,
-    pub parts: &'static [Part],
-}
-
-/// Makes the step of an update that the teacher's table learns.
-fn learn(alloc: Global, key: u32, count: u64) -> Option<Step> {
-    let mut learned = update(
-        alloc,
-        &UpdateParts {
-            table: T1.id,
-            number: 9,
-            life: Some(30_000),
-            key: KeyParts::Int(0),
-            values: &[],
-            name: b"",
-        },
-    )?;
-    learned.key = Key::Int(key);
-    learned.values = learned.values.with(alloc, Value::Count(count)).ok()?;
-    Some(Step::Learn {
-        session: SESSION,
-        update: learned,
-        moment: Moment::least(),
-    })
-}
-
 /// Makes the step that delivers bytes.
 fn deliver(way: Way, count: usize) -> Step {
     Step::Deliver {
@@ -106,16 +66,15 @@ fn deliver(way: Way, count: usize) -> Step {
 }
 
 /// Makes a step.
-fn step_of(alloc: Global, short: Short) -> Option<Step> {
+fn step_of(short: Short) -> Step {
     let (session, moment) = (SESSION, Moment::least());
-    Some(match short {
+    match short {
         Short::Track(key, more) => Step::Track {
             table: T1.id,
             key: Key::Int(key),
             change: Change::Add(DataType::Gpc0, more),
             moment,
         },
-        Short::Learn(key, count) => learn(alloc, key, count)?,
         Short::Copy(kind) => Step::Copy {
             session,
             table: T1.id,
@@ -127,17 +86,14 @@ fn step_of(alloc: Global, short: Short) -> Option<Step> {
         Short::ToLearner(count) => deliver(Way::ToLearner, count),
         Short::ToTeacher(count) => deliver(Way::ToTeacher, count),
         Short::Ack => Step::Ack { session },
-        Short::Break => Step::Break { session },
-        Short::Reopen => Step::Reopen { session },
-        Short::BreakAnother => Step::Break { session: STRANGER },
-    })
+    }
 }
 
 /// Makes the steps one after another.
-fn after(alloc: Global, world: World, steps: &[Short]) -> Option<World> {
+fn after(world: World, steps: &[Short]) -> Option<World> {
     let mut world = world;
     for short in steps {
-        let step = step_of(alloc, *short)?;
+        let step = step_of(*short);
         world = run(world, &[step]).ok()?;
     }
     Some(world)
@@ -238,55 +194,32 @@ fn is_seen(alloc: Global, world: &World, seen: &Seen) -> Option<bool> {
     )
 }
 
-/// Adds 1 to key 1 of `t1`.
-fn add_one(cell: &mut TableCell) -> Option<()>
-    ensures { IfSome result (λ done. length cell.new.state.sessions ≡ length cell.old.state.sessions) }
-{
-    let change = Change::Add(DataType::Gpc0, 1);
-    let _reply = cell.track(0, Key::Int(1), change, Moment::least()).ok()?;
-    Some(())
-}
-
-/// Makes `t1`, and adds 1 to its key 1 this often.
-fn cell_after(alloc: Global, added: u32) -> Option<TableCell>
+/// Makes `t1`.
+fn cell(alloc: Global) -> Option<TableCell>
     ensures { IfSome result (λ cell. length cell.state.sessions ≡ 0) }
 {
-    let mut cell = TableCell::new(alloc, definition(alloc, &T1)?, 1_000_000, false, 1).ok()?;
-    for _ in 0..added {
-        add_one(&mut cell)?;
-    }
-    Some(cell)
+    TableCell::new(alloc, definition(alloc, &T1)?, 1_000_000, false, 1).ok()
 }
 
-/// Makes the world of a story, before its steps.
-fn world(alloc: Global, story: &Story) -> Option<World> {
-    let cell = cell_after(alloc, story.added)?;
+/// Makes a world of `t1` and a session of version 2.1.
+fn world(alloc: Global) -> Option<World> {
+    let cell = cell(alloc)?;
     if cell.room() < 1 {
         return None;
     }
     let cells = vec![in alloc; cell].ok()?;
-    World::new(alloc, cells, vec![in alloc; story.version].ok()?).ok()
+    World::new(alloc, cells, vec![in alloc; Version::V21].ok()?).ok()
 }
 
-/// Returns the index of the first part after which something else is there; `None` if memory runs out.
-fn failing_part(alloc: Global, story: &Story) -> Option<Option<usize>> {
-    let mut world = world(alloc, story)?;
-    for (place, (steps, seen)) in story.parts.iter().enumerate() {
-        world = after(alloc, world, *steps)?;
+/// Makes steps in parts, in a new world. Returns the index of the first part after which something else is there; `None` if memory runs
+/// out.
+pub fn failing_part(alloc: Global, parts: &[Part]) -> Option<Option<usize>> {
+    let mut world = world(alloc)?;
+    for (place, (steps, seen)) in parts.iter().enumerate() {
+        world = after(world, *steps)?;
         if !is_seen(alloc, &world, seen)? {
             return Some(Some(place));
         }
     }
     Some(None)
-}
-
-/// Plays each story in a new world. Returns the index of the first that fails, and that of its part.
-pub fn first_failing(alloc: Global, stories: &[Story]) -> Option<(usize, Option<usize>)> {
-    for (place, story) in stories.iter().enumerate() {
-        let failing = failing_part(alloc, story);
-        if failing != Some(None) {
-            return Some((place, failing.flatten()));
-        }
-    }
-    None
 }

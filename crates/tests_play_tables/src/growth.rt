@@ -1,7 +1,7 @@
-//! Calls of `t1` for which memory may run out: such a call changes nothing, and returns what it should when it is made again. Each
-//! function may be run with any one allocation failing, or with none.
+//! Calls of `t1` and of `wide` for which memory may run out: such a call changes nothing, and returns what it should when it is made
+//! again. Each function may be run with any one allocation failing, or with none.
 
-use crate::cells::{cell, count, has, only, received};
+use crate::cells::{SERVER, WIDE, cell, count, has, is_wide, key_of, only, received};
 use crate::ends::{moment, row};
 use crate::next_rounds::begun_anew;
 use crate::round::Round;
@@ -14,16 +14,17 @@ use table_rows::{ListRows, MapRows, Rows};
 use table_shards::{Audit, RoundError, Seat, ShardError, Shards, held};
 use table_types::{Batch, Change, CopyKind, DataType, Key, Moment, Settled, Update, Version};
 use tests_play_data::outcomes::{Outcome, is_out};
-use tests_play_data::parts::{T1, text_key};
+use tests_play_data::parts::{T1, named, text_key};
 
 /// A call of a table, and what it returns at the point at which it is made.
 #[derive(Clone, Copy, Debug, PartialEq, Eq)]
 pub enum Call {
     /// Opens this session.
     Open(u32),
-    /// Adds to the count of a key: the key, how much, and the row's number and count.
+    /// Adds to the count of a key, or sets the server's name by adding 0: the key, how much, and the row's number and count. A key of
+    /// `wide` is a letter.
     Track(u32, u64, u32, u64),
-    /// Learns 5 for key 7 in session 1: the row's number.
+    /// Learns 5 for key 7 in session 1, or for key `a` of `wide`: the row's number.
     Learn(u32),
     /// Copies what is due to session 1, which is one row: its number and count.
     Copy(u32, u64),
@@ -39,6 +40,8 @@ pub enum Call {
 pub struct Story {
     /// What is printed if memory runs out for the call.
     pub name: &'static str,
+    /// Whether the table is `wide`, and not `t1`.
+    pub is_wide: bool,
     /// How many rows the table has room for: 1, or 10 if not.
     pub is_narrow: bool,
     pub before: &'static [Call],
@@ -52,24 +55,40 @@ fn add(more: u64) -> Change {
     Change::Add(DataType::Gpc0, more)
 }
 
-fn tracks(cell: &mut TableCell, key: u32, more: u64, expected: (u32, u64)) -> Option<bool> {
-    match cell.track(0, Key::Int(key), add(more), Moment::least()) {
-        Ok(reply) => Some((reply.number, count(&reply.row).unwrap_or(0)) == expected),
+/// Makes the change that adds `more`, or sets the server's name if that is 0.
+fn change(alloc: Global, more: u64) -> Option<Change> {
+    if more > 0 {
+        return Some(add(more));
+    }
+    Some(Change::SetName(Some(named(alloc, SERVER)?)))
+}
+
+fn tracks(
+    alloc: Global,
+    cell: &mut TableCell,
+    key: u32,
+    more: u64,
+    (number, counted): (u32, u64),
+) -> Option<bool> {
+    let (key, change) = key_of(alloc, is_wide(cell), key).zip(change(alloc, more))?;
+    match cell.track(0, key, change, Moment::least()) {
+        Ok(reply) => Some(reply.number == number && count(&reply.row) == Some(counted)),
         Err(TrackError::Memory) => None,
         Err(_) => Some(false),
     }
 }
 
-/// Makes the update that has 5 for key 7, a second time if memory runs out for it.
-fn five(alloc: Global) -> Option<Update> {
-    match received(alloc, 10_000) {
+/// Makes the update that a table learns, a second time if memory runs out for it.
+fn five(alloc: Global, is_wide: bool) -> Option<Update> {
+    match received(alloc, is_wide) {
         Some(update) => Some(update),
-        None => received(alloc, 10_000),
+        None => received(alloc, is_wide),
     }
 }
 
 fn learns(alloc: Global, cell: &mut TableCell, number: u32) -> Option<bool> {
-    match cell.learn(1, five(alloc)?, Moment::least()) {
+    let five = five(alloc, is_wide(cell))?;
+    match cell.learn(1, five, Moment::least()) {
         Ok(reply) => Some(reply.number == number && count(&reply.row) == Some(5)),
         Err(LearnError::Memory) => None,
         Err(_) => Some(false),
@@ -99,7 +118,9 @@ fn is_made(alloc: Global, cell: &mut TableCell, call: Call) -> Option<bool> {
             Err(OpenError::Memory) => None,
             answer => Some(answer == Ok(())),
         },
-        Call::Track(key, more, number, counted) => tracks(cell, key, more, (number, counted)),
+        Call::Track(key, more, number, counted) => {
+            tracks(alloc, cell, key, more, (number, counted))
+        }
         Call::Learn(number) => learns(alloc, cell, number),
         Call::Copy(number, counted) => copies(cell, number, counted),
         Call::Ack(number) => match cell.ack(1, number) {
@@ -123,10 +144,18 @@ fn are_made(alloc: Global, cell: &mut TableCell, calls: &[Call]) -> bool {
     true
 }
 
-/// Makes `t1` with room for one row, or for ten, and makes these calls.
-fn prepared(alloc: Global, is_narrow: bool, before: &[Call]) -> Option<TableCell> {
+/// Makes `t1` or `wide` with room for one row, or for ten, and makes these calls.
+fn prepared(
+    alloc: Global,
+    (is_wide, is_narrow): (bool, bool),
+    before: &[Call],
+) -> Option<TableCell> {
     let size = if is_narrow { 1 } else { 10 };
-    let mut cell = cell(alloc, &T1, size)?;
+    let mut cell = if is_wide {
+        cell(alloc, &WIDE, size)?
+    } else {
+        cell(alloc, &T1, size)?
+    };
     if are_made(alloc, &mut cell, before) {
         Some(cell)
     } else {
@@ -158,7 +187,7 @@ fn goes(alloc: Global, cell: &mut TableCell, story: &Story) -> Outcome {
 }
 
 fn plays(alloc: Global, story: &Story) -> Option<Outcome> {
-    let mut cell = prepared(alloc, story.is_narrow, story.before)?;
+    let mut cell = prepared(alloc, (story.is_wide, story.is_narrow), story.before)?;
     Some(goes(alloc, &mut cell, story))
 }
 
@@ -194,14 +223,17 @@ const BEFORE: &[Call] = &[Call::Open(1), Call::Track(7, 5, 1, 5)];
 
 /// Makes `t1` under its lock, and its seat.
 fn begun(alloc: Global) -> Option<Round> {
-    let cells = vec![in alloc; prepared(alloc, false, BEFORE)?].ok()?;
+    let cells = vec![in alloc; prepared(alloc, (false, false), BEFORE)?].ok()?;
     let (shards, mut seats) = Shards::new(alloc, cells, 1).ok()?;
     let seat = seats.pop();
     Some(Round { shards, seat })
 }
 
 /// Copies the rows for session 1 under the lock of `t1`. Takes the seat and puts it back.
-fn copied<R: Wait>(rt: &R, round: &mut Round) -> Option<Result<Batch, ShardError<CopyError>>> {
+pub(crate) fn copied<R: Wait>(
+    rt: &R,
+    round: &mut Round,
+) -> Option<Result<Batch, ShardError<CopyError>>> {
     let lock = round.shards.cell(1)?;
     let taken = round.seat.take()?;
     let mut locked = lock.lock(rt);
@@ -384,7 +416,7 @@ fn filled(alloc: Global) -> Option<(MapRows, ListRows)> {
 }
 
 fn handed_out(alloc: Global) -> Option<(TableCell, Batch)> {
-    let mut cell = prepared(alloc, false, BEFORE)?;
+    let mut cell = prepared(alloc, (false, false), BEFORE)?;
     match cell.copy(1, CopyKind::Push, 512, Moment::least()) {
         Ok(batch) => Some((cell, batch)),
         Err(_) => None,
@@ -401,7 +433,7 @@ const BEFORE_CHECKPOINT: &[Call] = &[
 
 fn make_ready(alloc: Global) -> Option<Ready> {
     let ((cell, batch), (map, list)) = handed_out(alloc).zip(filled(alloc))?;
-    let (quiet, round) = prepared(alloc, false, BEFORE_CHECKPOINT).zip(begun(alloc))?;
+    let (quiet, round) = prepared(alloc, (false, false), BEFORE_CHECKPOINT).zip(begun(alloc))?;
     let text = text_key(alloc, b"a")?;
     Some(Ready {
         cell,

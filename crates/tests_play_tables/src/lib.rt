@@ -1,27 +1,23 @@
-//! Plays the examples of tables that only a call can show: of update numbers, of rows and their ends, of tables with their
-//! history, under locks, with seats, audits and rounds, and of calls for which memory runs out. The library has no tests, so it is
-//! proved once. Others begin with its seats, tracks and threads that wait for each other. A function that returns an `Option`
-//! returns `None` also if memory runs out, so that a test of what it returns fails.
+//! Plays the examples of tables that only a call can show: of update numbers, of both types that hold rows, of tables under locks,
+//! with seats, audits and rounds, and of calls for which memory runs out. The library has no tests, so it is proved once. Others
+//! begin with its seats, tracks and threads that wait for each other. A function that returns an `Option` returns `None` also if
+//! memory runs out, so that a test of what it returns fails.
 #![tactic(auto)]
 
-pub mod answers;
 pub mod audits;
+pub mod calls;
 mod cells;
-pub mod copies;
-pub mod ends;
+mod ends;
 pub mod growth;
 pub mod holders;
-pub mod listed;
 pub mod locks;
 pub mod next_rounds;
 pub mod numbers;
 mod round;
-pub mod seats;
+mod seats;
 pub mod swaps;
 mod tracks;
 mod two_seats;
-pub mod versions;
-pub mod wide;
 
 pub use tracks::{comes, count, track};
 pub use two_seats::TwoSeats;

@@ -1,13 +1,13 @@
-//! Rounds after an audit, and slides in a round.
+//! Rounds after an audit, and calls in a round that drop events or give rows new numbers.
 
 use crate::round::Round;
-use crate::seats::{fresh, tracked};
+use crate::seats::{purges, tracked};
 use std::alloc::Global;
 use std::convert::Infallible;
 use std::sync::Wait;
 use table_cell::{CheckpointError, RenumberError};
 use table_shards::held::lent;
-use table_shards::{Audit, AuditError, RoundError, Seat, ShardError, Shards, held};
+use table_shards::{Audit, AuditError, Seat, ShardError, Shards, held};
 use table_types::{CopyKind, Moment, Version};
 
 /// Makes a round of `t1` with three tracks of key 7, and audits it.
@@ -72,38 +72,6 @@ fn copies<R: Wait>(rt: &R, round: &mut Round) -> Option<bool> {
     Some(opened == Ok(()) && copied.is_ok())
 }
 
-/// Returns whether no other round begins while a batch is out, and the audit comes back as it was.
-pub fn waits_for_a_batch<R: Wait>(rt: &R, alloc: Global) -> Option<bool> {
-    let mut round = tracked(rt, alloc)?;
-    let copied = copies(rt, &mut round)?;
-    let (error, audit) = round.audit(alloc)?.ok()?.next_round(alloc).err()?;
-    Some(copied && error == RoundError::BatchOut && has_events(&audit, 0, 5))
-}
-
-/// Lets `t1` slide. Returns how many events it dropped.
-fn slid<R: Wait>(rt: &R, round: &Round) -> Option<u64> {
-    let lock = round.shards.cell(1)?;
-    let seat = round.seat.as_ref()?;
-    let dropped = lent::slide(&mut lock.lock(rt), seat, 1).ok()?;
-    Some(dropped.count())
-}
-
-/// Returns whether an audit notices that events of the round were dropped.
-pub fn is_noticed<R: Wait>(rt: &R, alloc: Global) -> Option<bool> {
-    let round = tracked(rt, alloc)?;
-    let dropped = slid(rt, &round)?;
-    let fault = AuditError::Mismatch { table: 1, seat: 0 };
-    Some(dropped == 3 && round.audited(alloc) == Some(Err(fault)))
-}
-
-/// Returns whether an audit notices that a seat has forgotten its receipts.
-pub fn is_missed<R: Wait>(rt: &R, alloc: Global) -> Option<bool> {
-    let mut round = tracked(rt, alloc)?;
-    round.seat.as_mut()?.forget(1);
-    let fault = AuditError::Mismatch { table: 1, seat: 0 };
-    Some(round.receipts(1) == Some(0) && round.audited(alloc) == Some(Err(fault)))
-}
-
 /// Lets the history of `t1` begin anew from the seat, which comes back. Returns how many events it dropped, or why it is
 /// refused.
 pub(crate) fn begun_anew<R: Wait>(
@@ -135,50 +103,25 @@ fn renumbered<R: Wait>(rt: &R, round: &mut Round) -> Option<Result<(), ShardErro
     Some(done)
 }
 
-/// Gives the rows of `t1` new numbers. Returns whether an audit of the round notices.
-fn notices_a_renewal<R: Wait>(rt: &R, alloc: Global, mut round: Round) -> Option<bool> {
-    let renewed = renumbered(rt, &mut round)? == Ok(());
-    let fault = AuditError::Mismatch { table: 1, seat: 0 };
-    Some(renewed && round.audited(alloc) == Some(Err(fault)))
+/// Returns whether `t1`, which has three events, is purged and begins anew from a seat, but not while a batch is out, slides also then,
+/// and gets new numbers, but not while a session is open.
+fn drops_events<R: Wait>(rt: &R, round: &mut Round) -> Option<bool> {
+    let purged = purges(rt, &round.shards, &mut round.seat)?;
+    let begun = begun_anew(rt, round)? == Ok(4);
+    let renewed = renumbered(rt, round)? == Ok(());
+    let copied = copies(rt, round)?;
+    let refused = begun_anew(rt, round)? == Err(ShardError::Cell(CheckpointError::BatchOut));
+    let slid = slid_away(rt, round)? == Ok(2);
+    let open = renumbered(rt, round)? == Err(ShardError::Cell(RenumberError::SessionOpen));
+    Some(purged && begun && renewed && copied && refused && slid && open)
 }
 
-/// Begins another round of an audited `t1` with a renewal, and tracks key 7. Returns whether the audit notices the renewal, which
-/// dropped no event of the round.
-fn notices_a_first_renewal<R: Wait>(rt: &R, alloc: Global, audit: Audit) -> Option<bool> {
-    let (shards, seats) = audit.next_round(alloc).ok()?;
-    let mut round = with_seat(shards, seats);
-    let renewed = renumbered(rt, &mut round)? == Ok(());
-    let counted = round.track(rt, 1, 7) == Some(4) && round.receipts(1) == Some(1);
-    let fault = AuditError::Mismatch { table: 1, seat: 0 };
-    Some(renewed && counted && round.audited(alloc) == Some(Err(fault)))
-}
-
-/// Returns whether an audit notices a renewal with which another round begins, before an event of it.
-pub fn is_renewed_at_first<R: Wait>(rt: &R, alloc: Global) -> Option<bool> {
-    notices_a_first_renewal(rt, alloc, audited(rt, alloc)?)
-}
-
-/// Returns whether an audit notices a renewal of a round without an event.
-pub fn is_renewed_alone<R: Wait>(rt: &R, alloc: Global) -> Option<bool> {
-    notices_a_renewal(rt, alloc, fresh(alloc)?)
-}
-
-/// Returns whether an audit notices a renewal after the events of a round.
-pub fn is_renewed_later<R: Wait>(rt: &R, alloc: Global) -> Option<bool> {
-    notices_a_renewal(rt, alloc, tracked(rt, alloc)?)
-}
-
-/// Returns whether `t1` begins anew from a seat, but not while a batch is out, slides also then, and gets new numbers, but not while
-/// a session is open; and whether the seat keeps its receipts, and an audit notices.
+/// Returns whether `t1` answers such calls as it should, and whether the seat keeps its receipts, and an audit notices.
 pub fn comes_back<R: Wait>(rt: &R, alloc: Global) -> Option<bool> {
     let mut round = tracked(rt, alloc)?;
-    let begun = begun_anew(rt, &mut round)? == Ok(3) && renumbered(rt, &mut round)? == Ok(());
-    let copied = copies(rt, &mut round)?;
-    let refused = begun_anew(rt, &mut round)? == Err(ShardError::Cell(CheckpointError::BatchOut));
-    let slid = slid_away(rt, &mut round)? == Ok(2);
-    let open = renumbered(rt, &mut round)? == Err(ShardError::Cell(RenumberError::SessionOpen));
-    let kept = round.receipts(1) == Some(5);
+    let dropped = drops_events(rt, &mut round);
+    let kept = round.receipts(1) == Some(6);
     let fault = AuditError::Mismatch { table: 1, seat: 0 };
     let noticed = round.audited(alloc) == Some(Err(fault));
-    Some(begun && copied && refused && slid && open && kept && noticed)
+    Some(dropped == Some(true) && kept && noticed)
 }

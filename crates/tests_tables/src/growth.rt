@@ -1,21 +1,25 @@
 //! Calls for which memory may run out: such a call changes nothing, and returns what it should when it is made again. Each test may
-//! be run with any one allocation failing, and the last with all failing from any one on; most print for which call memory ran out.
+//! be run with any one allocation failing, and the last with all failing from any one on; each prints for which call memory ran out.
 
 use tests_play_tables::growth::{
     Call, Shared, Story, first_failing, outcome, outcome_without_memory,
-};
-use tests_play_tables::wide::{
-    Before, Tracking, acknowledges_again, copies_again, first_failing_track, learns_again,
-    opens_again,
 };
 
 const OPEN: Call = Call::Open(1);
 
 const TRACK: Call = Call::Track(7, 5, 1, 5);
 
-static STORIES: [Story; 9] = [
+/// The letters `a` and `b`, keys of the table with string keys, and a change that names the server in the row of `a`.
+const A: u32 = 0x61;
+
+const B: u32 = 0x62;
+
+const NAME_A: Call = Call::Track(A, 0, 1, 0);
+
+static STORIES: [Story; 16] = [
     Story {
         name: "track",
+        is_wide: false,
         is_narrow: false,
         before: &[OPEN],
         rows: &[],
@@ -24,6 +28,7 @@ static STORIES: [Story; 9] = [
     },
     Story {
         name: "track of a row that is there",
+        is_wide: false,
         is_narrow: false,
         before: &[OPEN, TRACK],
         rows: &[(7, 5)],
@@ -32,6 +37,7 @@ static STORIES: [Story; 9] = [
     },
     Story {
         name: "track in a full table",
+        is_wide: false,
         is_narrow: true,
         before: &[OPEN, TRACK],
         rows: &[(7, 5)],
@@ -40,6 +46,7 @@ static STORIES: [Story; 9] = [
     },
     Story {
         name: "learn",
+        is_wide: false,
         is_narrow: false,
         before: &[OPEN, Call::Track(7, 4, 1, 4)],
         rows: &[(7, 4)],
@@ -48,6 +55,7 @@ static STORIES: [Story; 9] = [
     },
     Story {
         name: "copy",
+        is_wide: false,
         is_narrow: false,
         before: &[OPEN, TRACK],
         rows: &[(7, 5)],
@@ -56,6 +64,7 @@ static STORIES: [Story; 9] = [
     },
     Story {
         name: "ack",
+        is_wide: false,
         is_narrow: false,
         before: &[OPEN, TRACK, Call::Copy(1, 5)],
         rows: &[(7, 5)],
@@ -64,6 +73,7 @@ static STORIES: [Story; 9] = [
     },
     Story {
         name: "open",
+        is_wide: false,
         is_narrow: false,
         before: &[OPEN, TRACK],
         rows: &[(7, 5)],
@@ -72,6 +82,7 @@ static STORIES: [Story; 9] = [
     },
     Story {
         name: "close",
+        is_wide: false,
         is_narrow: false,
         before: &[OPEN, TRACK],
         rows: &[(7, 5)],
@@ -80,10 +91,75 @@ static STORIES: [Story; 9] = [
     },
     Story {
         name: "purge",
+        is_wide: false,
         is_narrow: false,
         before: &[OPEN, TRACK],
         rows: &[(7, 5)],
         call: Call::Purge(1),
+        rows_after: &[],
+    },
+    // The fifth event of a table with string keys, two counts and the server's name: its history grows.
+    Story {
+        name: "track of a wide row",
+        is_wide: true,
+        is_narrow: false,
+        before: &[OPEN, Call::Open(2), Call::Open(3), Call::Open(4)],
+        rows: &[],
+        call: NAME_A,
+        rows_after: &[(A, 0)],
+    },
+    Story {
+        name: "track of a wide row that is there",
+        is_wide: true,
+        is_narrow: false,
+        before: &[OPEN, Call::Open(2), Call::Open(3), NAME_A],
+        rows: &[(A, 0)],
+        call: Call::Track(A, 3, 2, 3),
+        rows_after: &[(A, 3)],
+    },
+    Story {
+        name: "track in a full table of wide rows",
+        is_wide: true,
+        is_narrow: true,
+        before: &[OPEN, Call::Open(2), Call::Open(3), NAME_A],
+        rows: &[(A, 0)],
+        call: Call::Track(B, 0, 2, 0),
+        rows_after: &[(B, 0)],
+    },
+    Story {
+        name: "learn of a wide row",
+        is_wide: true,
+        is_narrow: false,
+        before: &[OPEN, Call::Open(2), Call::Open(3), Call::Open(4)],
+        rows: &[],
+        call: Call::Learn(1),
+        rows_after: &[(A, 5)],
+    },
+    Story {
+        name: "copy of a wide row",
+        is_wide: true,
+        is_narrow: false,
+        before: &[OPEN, Call::Open(2), Call::Open(3), NAME_A],
+        rows: &[(A, 0)],
+        call: Call::Copy(1, 0),
+        rows_after: &[(A, 0)],
+    },
+    Story {
+        name: "ack of a wide row",
+        is_wide: true,
+        is_narrow: false,
+        before: &[OPEN, Call::Open(2), NAME_A, Call::Copy(1, 0)],
+        rows: &[(A, 0)],
+        call: Call::Ack(1),
+        rows_after: &[(A, 0)],
+    },
+    Story {
+        name: "open of a fifth session",
+        is_wide: true,
+        is_narrow: false,
+        before: &[OPEN, Call::Open(2), Call::Open(3), Call::Open(4)],
+        rows: &[],
+        call: Call::Open(5),
         rows_after: &[],
     },
 ];
@@ -111,90 +187,6 @@ fn unlocks_again(rt: HostRuntime) {
 #[test]
 fn begins_another_round_again(rt: HostRuntime) {
     assert!(rt; outcome(&rt, rt.alloc(), Shared::NextRound).is_right(&rt, "next_round"));
-}
-
-/// Changes of the first row of a table, of a row that is there, and of a row that replaces the only one.
-static TRACKS: [(Before, Tracking); 3] = [
-    (
-        Before {
-            size: 10,
-            sessions: 4,
-            texts: &[],
-        },
-        Tracking {
-            text: b"one",
-            more: 0,
-            number: 1,
-        },
-    ),
-    (
-        Before {
-            size: 10,
-            sessions: 3,
-            texts: &[b"one"],
-        },
-        Tracking {
-            text: b"one",
-            more: 3,
-            number: 2,
-        },
-    ),
-    (
-        Before {
-            size: 1,
-            sessions: 3,
-            texts: &[b"one"],
-        },
-        Tracking {
-            text: b"two",
-            more: 0,
-            number: 2,
-        },
-    ),
-];
-
-#[test]
-fn tracks_wide_rows_again(rt: HostRuntime) {
-    assert_eq!(rt; first_failing_track(rt.alloc(), &TRACKS), None);
-}
-
-/// Four sessions are open, and there is no row.
-static FOUR_SESSIONS: Before = Before {
-    size: 10,
-    sessions: 4,
-    texts: &[],
-};
-
-#[test]
-fn learns_a_wide_row_again(rt: HostRuntime) {
-    assert!(rt; learns_again(rt.alloc(), &FOUR_SESSIONS) == Some(true));
-}
-
-static THREE_ROWS: Before = Before {
-    size: 10,
-    sessions: 1,
-    texts: &[b"one", b"two", b"three"],
-};
-
-#[test]
-fn copies_wide_rows_again(rt: HostRuntime) {
-    assert!(rt; copies_again(rt.alloc(), &THREE_ROWS) == Some(true));
-}
-
-static TWO_ROWS: Before = Before {
-    size: 10,
-    sessions: 1,
-    texts: &[b"one", b"two"],
-};
-
-#[test]
-fn acknowledges_wide_rows_again(rt: HostRuntime) {
-    assert!(rt; acknowledges_again(rt.alloc(), &TWO_ROWS) == Some(true));
-}
-
-#[test]
-fn opens_a_fifth_session_again(rt: HostRuntime) {
-    assert!(rt; opens_again(rt.alloc(), &FOUR_SESSIONS) == Some(true));
 }
 
 #[test]

@@ -1,57 +1,19 @@
 //! Plays stories of sessions.
 
 use crate::machine::{After, Asked, Given, Peer, Step, Story};
-use crate::sessions::{accepting, connecting, connecting_with, roster};
-use known_state::Known;
+use crate::sessions::{accepting, connecting};
 use learner::Fault;
 use session_core::{Action, Event, Session, SessionError, State};
 use std::alloc::Global;
-use table_types::{Batch, Items, Moment, Roster, Update, Value, Version};
-use tests_play_data::parts::{
-    KeyParts, KnownParts, ST, T1, UpdateParts, alone, are_held, known, updates,
-};
-
-/// The updates of the batch that is taught.
-static UPDATES: [UpdateParts; 1] = [UpdateParts {
-    table: 1,
-    number: 1,
-    life: Some(30_000),
-    key: KeyParts::Int(7),
-    values: &[Value::Count(5)],
-    name: b"",
-}];
-
-/// What `b` knows after it.
-static TAUGHT: KnownParts = KnownParts {
-    table: T1,
-    selected: Some(1),
-    defined: &[1],
-    last: &[(1, 1)],
-    held: &[],
-};
+use table_types::{Items, Moment};
+use tests_play_data::parts::{T1, alone};
 
 /// Makes the session of `peer`.
 fn session(alloc: Global, peer: &Peer) -> Option<Session> {
     match peer {
         Peer::Connector => connecting(alloc, alone(alloc, &T1)?, false),
-        Peer::ConnectorOfTwoTables => connecting(alloc, roster(alloc, &[T1, ST])?, true),
-        Peer::ConnectorOfVersion20 => {
-            connecting_with(alloc, Version::V20, roster(alloc, &[T1, ST])?, true)
-        }
         Peer::Acceptor { up_to_date } => accepting(alloc, alone(alloc, &T1)?, *up_to_date),
-        Peer::AcceptorOfTwoTables => accepting(alloc, roster(alloc, &[T1, ST])?, true),
     }
-}
-
-/// Makes the batch of `updates`.
-fn batch_for(alloc: Global, roster: &Roster, updates: Vec<Update>) -> Option<Batch> {
-    Batch::new(alloc, roster, updates).ok()
-}
-
-fn batch(alloc: Global) -> Option<Batch> {
-    let updates = updates(alloc, UPDATES.as_slice())?;
-    let roster = alone(alloc, &T1)?;
-    batch_for(alloc, &roster, updates)
 }
 
 fn event(alloc: Global, given: &Given) -> Option<Event> {
@@ -59,14 +21,8 @@ fn event(alloc: Global, given: &Given) -> Option<Event> {
         Given::Opened => Event::Opened,
         Given::Bytes(bytes) => Event::Bytes(Items::new(Vec::from_slice(alloc, *bytes).ok()?)),
         Given::End => Event::End,
-        Given::ReadFault => Event::ReadFault,
         Given::Turn => Event::Turn,
-        Given::Copied(table) => Event::Copied(*table, batch(alloc)?),
         Given::Nothing(table) => Event::Nothing(*table),
-        Given::Written => Event::Written(known(alloc, &TAUGHT)?),
-        Given::WriteFault => Event::WriteFault,
-        Given::Settled(table, settled) => Event::Settled(*table, *settled),
-        Given::Refused(table) => Event::Refused(*table),
     })
 }
 
@@ -76,12 +32,10 @@ fn is_asked(action: &Action, asked: &Asked) -> bool {
         (Action::Learn(update), Asked::Learn(table, number)) => {
             update.table == *table && update.number == *number
         }
-        (Action::Ack { table, number }, Asked::Ack(id, last)) => *table == *id && *number == *last,
         (Action::Reopen(table), Asked::Reopen(id)) => *table == *id,
         (Action::Copy { table, kind }, Asked::Copy(id, expected)) => {
             *table == *id && *kind == *expected
         }
-        (Action::Teach(batch), Asked::Teach) => batch.updates().len() == UPDATES.len(),
         (Action::Part(kind), Asked::Part(expected)) => *kind == *expected,
         (Action::Close, Asked::Close) => true,
         _ => false,
@@ -100,28 +54,6 @@ fn are_asked(actions: &[Action], asked: &[Asked]) -> bool {
     true
 }
 
-/// Returns whether this is what `b` knows after the batch: `t1` as the roster has it is defined and selected, its last number is
-/// that of the update, and no slot holds a name.
-fn is_taught(known: &Known) -> bool {
-    let received = known.received();
-    let defined = match (received.selected_table(), known.roster().tables()) {
-        (Some(table), [own]) => table.id() == T1.id && table.is_same(own),
-        _ => false,
-    };
-    defined
-        && received.count() == 1
-        && known.last_numbers().last(T1.id) == Some(1)
-        && are_held(known.slots(), &[])
-}
-
-/// Returns whether the session keeps what `b` knows, if the event says so.
-fn is_kept(session: &Session, given: &Given) -> bool {
-    match given {
-        Given::Written => is_taught(session.known()),
-        _ => true,
-    }
-}
-
 /// Gives the session an event. It hides what `on` ensures, so that the proofs of its callers don't go through it.
 fn answer(
     alloc: Global,
@@ -134,11 +66,7 @@ fn answer(
 
 fn is_step(alloc: Global, session: &mut Session, (given, asked, state): &Step) -> bool {
     match answer(alloc, session, given) {
-        Some(Ok(actions)) => {
-            are_asked(actions.as_slice(), *asked)
-                && session.state() == *state
-                && is_kept(session, given)
-        }
+        Some(Ok(actions)) => { are_asked(actions.as_slice(), *asked) && session.state() == *state }
         _ => false,
     }
 }
@@ -166,18 +94,14 @@ fn says(session: &Session, confirmed: bool, fault: Option<Fault>) -> bool {
     session.confirmed() == confirmed && session.fault() == fault
 }
 
-/// Returns whether the session says so of its version.
-fn speaks(session: &Session, version: Option<Version>, fell_back: bool) -> bool {
-    session.version() == version && session.fell_back() == fell_back
-}
-
 fn is_left(alloc: Global, session: &mut Session, after: &After) -> bool {
     match after {
         After::Plain => says(session, false, None),
         After::Confirmed => says(session, true, None),
         After::Fault(fault) => says(session, false, Some(*fault)),
-        After::Speaks(version) => says(session, false, None) && speaks(session, *version, false),
-        After::FellBack => says(session, false, None) && speaks(session, None, true),
+        After::Speaks(version) => {
+            says(session, false, None) && session.version() == Some(*version)
+        }
         After::Over => {
             says(session, false, None) && refuses(alloc, session, &Given::Turn, SessionError::Ended)
         }

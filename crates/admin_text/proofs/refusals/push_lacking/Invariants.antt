@@ -1,5 +1,6 @@
 use Rattle.std.proofs.Common.{◌++◌, ℕ, List, map, take}
-use Rattle.admin_text.specs.Refusals.{AreLines, lacking_head}
+use Rattle.admin_text.specs.Refusals.{lacking_head}
+use Rattle.admin_text.specs.SaidLines.{AreLines}
 use Rattle.admin_text.proofs.refusals.push_lacking.Given as goal
 
 abbrev pub invariant-loop-kind : goal.invariant-loop-kind

@@ -1,4 +1,4 @@
-use Rattle.admin_text.specs.Refusals.{AddsPrintable}
+use Rattle.admin_text.specs.SaidLines.{AddsPrintable}
 use Rattle.admin_text.proofs.said_lines.push_printable.Given as goal
 
 abbrev pub invariant-loop-byte : goal.invariant-loop-byte

@@ -4,7 +4,7 @@ use Rattle.std.proofs.lemmas.Bool.{eqb-true, false≢true}
 use Rattle.std.proofs.lemmas.List.{nil_from_length}
 use Rattle.std.proofs.lemmas.Result.{err_from_is_err_and}
 use Rattle.std.specs.List.{list_all}
-use Rattle.session_core.specs.Keeping.{KeptSession}
+use Rattle.session_core.specs.Keeping.{KeptSession, progress_in}
 use Rattle.session_core.specs.Sessions.{ended}
 use Rattle.peers_devices.specs.Writing.{written}
 use Rattle.peers_engine.specs.Acting.{stands, worker}
@@ -18,7 +18,7 @@ returns-in_err-first-clause-failed g c =
     let p = err_from_is_err_and c.from_residual.result c.from_residual.ensures.1 in
     rw (p.1, p.2) (
       [],
-      inl ((c.in_err-first.field-0.0, c.in_err-first.ensures.refused, refl), refl, (ap (λ (x : KeptSession). ended x.session) c.in_err-first.ensures.ended, ap (λ (x : KeptSession). x.heard) c.in_err-first.ensures.ended, ap (λ (x : KeptSession). x.counts) c.in_err-first.ensures.ended), refl {a = c.args.seat.now}),
+      inl ((c.in_err-first.field-0.0, c.in_err-first.ensures.refused, refl), refl, (ap (λ (x : KeptSession). ended x.session) c.in_err-first.ensures.ended, ap (λ (x : KeptSession). x.heard) c.in_err-first.ensures.ended, ap (λ (x : KeptSession). x.counts) c.in_err-first.ensures.ended, ap (λ (x : KeptSession). progress_in x.manner) c.in_err-first.ensures.ended), refl {a = c.args.seat.now}),
       writes_nothing (written (g.W.Write.contents c.args.output.now) c.args.writes.now),
     )
 

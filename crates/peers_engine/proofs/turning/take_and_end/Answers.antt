@@ -15,13 +15,13 @@ pub returns-in-Err-clause-broken : goal.returns-in-Err-clause-broken
 returns-in-Err-clause-broken g c =
     taken_breaks c.args.context.now.shards.now (worker c.args.session.now c.args.seat.now c.args.context.now.number c.args.context.now.moment) c.react.new.session c.end.new.session c.react.new.seat c.args.event c.in-Err.error
     (written (g.W.Write.contents c.args.output.now) c.args.writes.now) (written (g.W.Write.contents c.react.new.output) c.react.new.writes)
-    c.in-Err.ensures.failed (c.end.ensures.ended, c.end.ensures.heard, c.end.ensures.counts)
+    c.in-Err.ensures.failed (c.end.ensures.ended, c.end.ensures.heard, c.end.ensures.counts, c.end.ensures.progress)
 
 pub returns-in-Err-clause-stopped : goal.returns-in-Err-clause-stopped
 returns-in-Err-clause-stopped g c =
     taken_stopped c.args.context.now.shards.now (worker c.args.session.now c.args.seat.now c.args.context.now.number c.args.context.now.moment) c.react.new.session c.end.new.session c.react.new.seat c.args.event c.in-Err.error
     (written (g.W.Write.contents c.args.output.now) c.args.writes.now) (written (g.W.Write.contents c.react.new.output) c.react.new.writes)
-    c.in-Err.ensures.failed (c.end.ensures.ended, c.end.ensures.heard, c.end.ensures.counts)
+    c.in-Err.ensures.failed (c.end.ensures.ended, c.end.ensures.heard, c.end.ensures.counts, c.end.ensures.progress)
 
 pub returns-in-Ok-clause-over : goal.returns-in-Ok-clause-over
 returns-in-Ok-clause-over g c = λ over.

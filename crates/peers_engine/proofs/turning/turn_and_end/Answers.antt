@@ -12,14 +12,14 @@ returns-in-Err-clause-broken g c =
     broken c.args.context.now.shards.now (worker c.args.session.now c.args.seat.now c.args.context.now.number c.args.context.now.moment) c.take_turn.new.session c.end.new.session c.take_turn.new.seat c.in-Err.error
     (g.R.Read.remaining c.args.input.now) (g.R.Read.remaining c.take_turn.new.input)
     (written (g.W.Write.contents c.args.output.now) c.args.writes.now) (written (g.W.Write.contents c.take_turn.new.output) c.take_turn.new.writes)
-    c.in-Err.ensures.failed (c.end.ensures.ended, c.end.ensures.heard, c.end.ensures.counts)
+    c.in-Err.ensures.failed (c.end.ensures.ended, c.end.ensures.heard, c.end.ensures.counts, c.end.ensures.progress)
 
 pub returns-in-Err-clause-stopped : goal.returns-in-Err-clause-stopped
 returns-in-Err-clause-stopped g c =
     stopped c.args.context.now.shards.now (worker c.args.session.now c.args.seat.now c.args.context.now.number c.args.context.now.moment) c.take_turn.new.session c.end.new.session c.take_turn.new.seat c.in-Err.error
     (g.R.Read.remaining c.args.input.now) (g.R.Read.remaining c.take_turn.new.input)
     (written (g.W.Write.contents c.args.output.now) c.args.writes.now) (written (g.W.Write.contents c.take_turn.new.output) c.take_turn.new.writes)
-    c.in-Err.ensures.failed (c.end.ensures.ended, c.end.ensures.heard, c.end.ensures.counts)
+    c.in-Err.ensures.failed (c.end.ensures.ended, c.end.ensures.heard, c.end.ensures.counts, c.end.ensures.progress)
 
 pub returns-in-Ok-clause-run : goal.returns-in-Ok-clause-run
 returns-in-Ok-clause-run g c =

@@ -1,4 +1,5 @@
 use Rattle.session_core.proofs.EitherRuns.{greetings_alike}
+use Rattle.session_core.proofs.GreetingHeard.{greetings_heard}
 use Rattle.session_core.proofs.laws.any_greeting.Goals as goal
 
 pub returns-clause-told : goal.returns-clause-told
@@ -15,3 +16,6 @@ pub returns-clause-reopened : goal.returns-clause-reopened
 returns-clause-reopened c =
     λ settles roster begun s e end before greeter bytes course one other steps others more rest left over begins lasts opens holds good cut first again out out'.
     (greetings_alike settles roster begun s e end before greeter bytes course one other steps others more rest left over begins lasts opens holds good cut first again out out').2
+
+pub returns-clause-heard : goal.returns-clause-heard
+returns-clause-heard c = greetings_heard

@@ -14,6 +14,15 @@ returns-in-Ok-checked_configuration-clause-warned g c =
     (subst (IsInput input) (sym c.as_slice.ensures.value) (input_read input _ c.in-Ok.text.items c.in-Ok.ensures.ok c.in-Ok.ensures.end))
     c.in-Ok-checked_configuration.ensures.faultless c.in-Ok-checked_configuration.ensures.warned
 
+pub returns-in-Ok-checked_configuration-clause-faultless :
+    goal.returns-in-Ok-checked_configuration-clause-faultless
+returns-in-Ok-checked_configuration-clause-faultless g c =
+    let input = g.R.Read.remaining c.args.input.now in (
+      c.as_slice.result.now,
+      subst (IsInput input) (sym c.as_slice.ensures.value) (input_read input _ c.in-Ok.text.items c.in-Ok.ensures.ok c.in-Ok.ensures.end),
+      c.in-Ok-checked_configuration.ensures.faultless,
+    )
+
 pub returns-in-Err-Refused-clause-said : goal.returns-in-Err-Refused-clause-said
 returns-in-Err-Refused-clause-said g c =
     let input = g.R.Read.remaining c.args.input.now in

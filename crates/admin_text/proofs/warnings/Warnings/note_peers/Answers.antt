@@ -1,5 +1,5 @@
 use Rattle.std.proofs.Common.{◌++◌, codes, map, subst, sym}
-use Rattle.admin_text.specs.Refusals.{AreLines}
+use Rattle.admin_text.specs.SaidLines.{AreLines}
 use Rattle.admin_text.specs.Warnings.{peers_heads, warned_head}
 use Rattle.admin_text.proofs.RefusalLaws.{next_lines}
 use Rattle.admin_text.proofs.warnings.Warnings.note_peers.Goals as goal
