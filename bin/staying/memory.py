@@ -116,7 +116,7 @@ def loaded(nodes, clients):
 
 @check
 def soak(trial):
-    """two nodes of which 20,000 rows are changed 480,000 times, and again, take 5 % more memory at most by the second time, or by the third or fourth"""
+    """two nodes of which 20,000 rows are changed take at most 5 % more memory after one load than after the load before, by the fourth at the latest"""
     trial.measures_memory()
     nodes = pair(trial)
     connected_all(nodes)
