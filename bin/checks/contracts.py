@@ -117,7 +117,7 @@ class Reader:
 
 def cells(lines):
     """Yields each part of the text with the number of its line, and the heading of its column if it is a cell of a table."""
-    headings = []
+    headings: list[str] = []
     for number, line in enumerate(lines, 1):
         if not line.startswith("|"):
             headings = []

@@ -7,108 +7,67 @@
 in_kilobytes() { prlimit --as=$(($1 * 1024)) "$program" "${@:2}"; }
 in_50_megabytes() { in_kilobytes 51200 "$@"; }
 
-# A lesson of 512 updates, 200 names in turn, in 16 KB less each time, until the program can no longer be loaded: it is whole, or
-# the program says that memory ran out. Both come. If the stack has no room to grow, the kernel ends it (139), at four sizes at most.
-lesson_in_less_and_less() {
-    local kilobytes lesson whole=0 lacking=0 stackless=0
-    echo 'table 3 st string 33 30000 server_key' >"$scene"
-    awk 'BEGIN { for (i = 0; i < 512; i++) printf "update 3 %d 30000 =k n%03d\n", i + 1, i % 200 }' >>"$scene"
-    run lesson <"$scene"
-    lesson=$output
-    for ((kilobytes = 8192; kilobytes > 0; kilobytes -= 16)); do
-        keep in_kilobytes "$kilobytes" lesson <"$scene"
-        if [ "$status" -eq 127 ]; then
-            break
-        elif [ "$status" -eq 0 ]; then
-            whole=$((whole + 1))
-            [ "$output" = "$lesson" ] && [ -z "$errors" ] || fail "a lesson in $kilobytes KB is another"
-        elif [ "$status" -eq 139 ]; then
-            stackless=$((stackless + 1))
-        else
-            lacking=$((lacking + 1))
-            ends "a lesson in $kilobytes KB" 3 '' $'memory\n'
-        fi
-    done
-    came_short 'a long lesson' "$whole" "$lacking" "$stackless"
-}
-
-# in_less_and_less WORD..: a command line with 16 KB less each time, until the program can no longer be loaded. It is never refused as no
-# command line: it ends well, or with a device that isn't there, or the program says that memory ran out, which happens. If the stack has
-# no room to grow, the kernel ends the program (139), at four sizes at most.
-in_less_and_less() {
-    local kilobytes short=0 stackless=0 line="'${*//$zeros/0..0}'"
-    for ((kilobytes = 4608; kilobytes > 0; kilobytes -= 16)); do
-        keep in_kilobytes "$kilobytes" "$@" <examples/two-updates.scene
-        case $status in
-            0 | 4) ;;
-            127) break ;;
-            139) stackless=$((stackless + 1)) ;;
-            *) short=$((short + 1)); ends "$line in $kilobytes KB" 3 '' $'memory\n' ;;
-        esac
-    done
-    if [ "$short" -gt 0 ] && [ "$stackless" -le 4 ]; then pass; else fail "$line in less and less memory: $short times out of memory, $stackless without a stack"; fi
-}
-
-# no_words_in_less_and_less WORD..: the same with words that are no command line. They are refused as such, with a text, if there is memory
-# for clap to read them; otherwise the program says that memory ran out. Both happen.
-no_words_in_less_and_less() {
-    local kilobytes refused=0 short=0 line="'${*//$zeros/0..0}'"
-    for ((kilobytes = 4608; kilobytes > 0; kilobytes -= 16)); do
-        keep in_kilobytes "$kilobytes" "$@" <examples/two-updates.scene
-        case $status in
-            127) break ;;
-            3) short=$((short + 1)); ends "$line in $kilobytes KB" 3 '' $'memory\n' ;;
-            *)
-                refused=$((refused + 1))
-                ends "$line in $kilobytes KB" 2 '' "$errors"
-                [ -n "$errors" ] || fail "$line in $kilobytes KB: standard error is empty"
-                ;;
-        esac
-    done
-    if [ "$refused" -gt 0 ] && [ "$short" -gt 0 ]; then pass; else fail "$line in less and less memory: $refused times refused, $short times out of memory"; fi
-}
-
-# The numbers have 100,000 zeros in front, so that at some sizes there is memory for the words and none for clap.
-words_in_less_and_less() {
-    local port zeros
-    port=$(free_port)
-    zeros=$(repeat 100000 0)
-    in_less_and_less round --threads=2 --tracks="${zeros}3"
-    in_less_and_less round --tracks "${zeros}3" --threads=2 --
-    in_less_and_less lesson --
-    in_less_and_less join --turns="${zeros}5" --port="$port" --name=a --peer=b
-    in_less_and_less join --peer - --name=--x --port "$port" --turns "${zeros}5" --
-    no_words_in_less_and_less round --threads=2 --tracks="${zeros}3" --tracks=3
-    no_words_in_less_and_less round --threads=9 --tracks="${zeros}3"
-    no_words_in_less_and_less join --turns="${zeros}5" --port="$port" --name= --peer=b
-    no_words_in_less_and_less serve --turns="${zeros}5" --port="$port" --name a
-}
-
-# whole_or_none FILE WORD..: the program with FILE in 80 MB of address space, and in 2 MB less each time, until it can no longer be loaded.
-# It prints what it prints with ample memory; or nothing, and says that memory ran out, which happens, or that there is no device. If the
-# stack has no room to grow, the kernel ends it (139), at four sizes at most.
+# whole_or_none FROM STEP FILE WORD..: runs the program with FILE in FROM KB of address space, and in STEP KB less each time, until it can no
+# longer be loaded. It ends as it does with ample memory; or prints nothing, and says that memory ran out, or that there is no device. If the
+# stack has no room to grow, the kernel ends it (139). Sets how often each came: `whole`, `short`, `lacking`, `stackless`.
 whole_or_none() {
-    local kilobytes file=$1 wanted whole=0 short=0 stackless=0
-    shift
+    local kilobytes from=$1 step=$2 file=$3 wanted what
+    shift 3
+    what="'${*//${zeros-0..0}/0..0}'"
+    whole=0 short=0 lacking=0 stackless=0
     run "$@" <"$file"
     wanted=$status$output$errors
-    for ((kilobytes = 81920; kilobytes > 0; kilobytes -= 2048)); do
+    for ((kilobytes = from; kilobytes > 0; kilobytes -= step)); do
         keep in_kilobytes "$kilobytes" "$@" <"$file"
         case $status in
             127) break ;;
-            139) [ -z "$output" ] || fail "$* in $kilobytes KB: no stack, and $output"; stackless=$((stackless + 1)) ;;
-            3) short=$((short + 1)); ends "$* in $kilobytes KB" 3 '' $'memory\n' ;;
-            4) ends "$* in $kilobytes KB" 4 '' $'device\n' ;;
-            *) whole=$((whole + 1)); [ "$status$output$errors" = "$wanted" ] || fail "$* in $kilobytes KB: status $status, ${errors:0:200}" ;;
+            139) [ -z "$output" ] || fail "$what in $kilobytes KB: no stack, and $output"; stackless=$((stackless + 1)) ;;
+            3) short=$((short + 1)); ends "$what in $kilobytes KB" 3 '' $'memory\n' ;;
+            *)
+                if [ "$status$output$errors" = "$wanted" ]; then
+                    whole=$((whole + 1))
+                else
+                    lacking=$((lacking + 1))
+                    ends "$what in $kilobytes KB" 4 '' $'device\n'
+                fi
+                ;;
         esac
     done
-    came_short "$*" "$whole" "$short" "$stackless"
 }
 
-# came_short WHAT WHOLE SHORT STACKLESS: passes if it was whole at some sizes, short of memory at others, and without a stack at four at most.
-came_short() {
-    if [ "$2" -gt 0 ] && [ "$3" -gt 0 ] && [ "$4" -le 4 ]; then pass; else fail "$1 in less and less memory: $2 times whole, $3 times out of memory, $4 without a stack"; fi
-    echo "$1: in $2 sizes whole, in $3 out of memory, in $4 without a stack"
+# comes_short FROM STEP FILE WORD..: the same. It is whole at some sizes, short of memory at others, and without a stack at four at most.
+comes_short() {
+    whole_or_none "$@"
+    if [ "$whole" -gt 0 ] && [ "$short" -gt 0 ] && [ "$stackless" -le "${most_stackless-4}" ]; then pass; else
+        fail "${*:4:1} in less and less memory: $whole times whole, $short times out of memory, $stackless without a stack"
+    fi
+    echo "${*:4:1}: in $whole sizes whole, in $short out of memory, in $stackless without a stack"
+}
+
+# A lesson of 512 updates, 200 names in turn. Command lines that are taken, also by a program that finds no device, or no memory for a thread,
+# and others, which are refused as such, with a text, if there is memory for clap to read them. The numbers have 100,000 zeros in front, so
+# that at some sizes there is memory for the words and none for clap.
+words_in_less_and_less() {
+    local port zeros words
+    echo 'table 3 st string 33 30000 server_key' >"$scene"
+    awk 'BEGIN { for (i = 0; i < 512; i++) printf "update 3 %d 30000 =k n%03d\n", i + 1, i % 200 }' >>"$scene"
+    comes_short 8192 16 "$scene" lesson
+    port=$(free_port)
+    zeros=$(repeat 100000 0)
+    for words in "round --threads=2 --tracks=${zeros}3" "round --tracks ${zeros}3 --threads=2 --" 'lesson --' \
+        "join --turns=${zeros}5 --port=$port --name=a --peer=b" "join --peer - --name=--x --port $port --turns ${zeros}5 --"; do
+        whole_or_none 4608 16 examples/two-updates.scene $words
+        if [ "$short" -gt 0 ] && [ "$stackless" -le 4 ]; then pass; else
+            fail "'${words//$zeros/0..0}' in less and less memory: $short times out of memory, $stackless without a stack"
+        fi
+    done
+    for words in "round --threads=2 --tracks=${zeros}3 --tracks=3" "round --threads=9 --tracks=${zeros}3" \
+        "join --turns=${zeros}5 --port=$port --name= --peer=b" "serve --turns=${zeros}5 --port=$port --name a"; do
+        run $words <examples/two-updates.scene
+        ends "'${words//$zeros/0..0}'" 2 '' "$errors"
+        [ -n "$errors" ] || fail "'${words//$zeros/0..0}': standard error is empty"
+        most_stackless=0 comes_short 4608 16 examples/two-updates.scene $words
+    done
 }
 
 # long_keys COUNT: prints that many updates of a table `t1` of string keys with 8,180 bytes each.
@@ -123,92 +82,32 @@ long_keys() {
 subcommands_in_less_and_less() {
     long_keys 256 >"$scene"
     cp "$scene" "$scratch/long"
-    whole_or_none "$scene" lesson
+    comes_short 81920 2048 "$scene" lesson
     run lesson <"$scene"
     sed -n 's/^[0-9A-F]*$/stream &/p' "$scratch/output" >"$scratch/streams"
     cat "$scratch/streams" >>"$scratch/long"
-    whole_or_none "$scratch/long" check
+    comes_short 81920 2048 "$scratch/long" check
     { head -n 1 "$scene"; echo 'moment 4294967296'; cat "$scratch/streams"; } >"$scratch/learned"
-    whole_or_none "$scratch/learned" learn
+    comes_short 81920 2048 "$scratch/learned" learn
     { printf '%s\n' 'table 1 t1 integer 4 30000 gpc0' 'open 1'
         repeat_lines 20000 'track 0 4294967296 %d add gpc0 1'
         printf '%s\n' 'copy 1 push 512 4294967296' 'ack 1 512' events; } >"$scene"
-    whole_or_none "$scene" table
+    comes_short 81920 2048 "$scene" table
     { printf '%s\n' 'table 1 t1 integer 4 30000 gpc0'
         repeat_lines 20000 'track 1 4294967296 %d add gpc0 1'
         printf '%s\n' 'copy 1 1 push 512 4294967296' 'teach 1' 'deliver 1 learner 100 4294967296' 'session 1' 'events 1'; } >"$scene"
-    whole_or_none "$scene" world
+    comes_short 81920 2048 "$scene" world
     { printf 'node a\nlisten 10.0.0.5:10000\ntable 1 t1 integer 4 0\n'; repeat 8000000 '#'; echo; } >"$scene"
-    whole_or_none "$scene" run --check
+    comes_short 81920 2048 "$scene" run --check
 }
 
-# far_within KILOBYTES serve|join WORDS: what `far_from` does with a node in so much address space, which may end before it meets the far side.
-far_within() {
-    local port within=(prlimit --as=$(($1 * 1024))) tries
-    came=
-    if [ "$2" = serve ]; then
-        tell port
-        read -r -t 20 port <&"${FAR[0]}"
-        start serve "$port" 100000
-        while kill -0 "$server" 2>/dev/null; do
-            grep -q "$(printf ' 0100007F:%04X 00000000:0000 0A ' "$port")" /proc/net/tcp && break
-            sleep 0.01
-        done
-        if kill -0 "$server" 2>/dev/null; then tell connect "$port" "$3"; else tell port; fi
-        wait "$server"; status=$?
-    else
-        tell listen "$3"
-        read -r -t 20 port <&"${FAR[0]}"
-        join_far "$port" 100000
-        wait "$server"; status=$?
-        # If the node never came, the far side waits for somebody.
-        { exec 3<>"/dev/tcp/127.0.0.1/$port"; } 2>/dev/null && exec 3>&-
+# A round in 2 MB less each time: it is whole, no thread can be started, or memory runs out. The first two come.
+round_in_less_and_less() {
+    local whole short lacking stackless
+    whole_or_none 131072 2048 /dev/null round --threads 2 --tracks 3
+    if [ "$whole" -gt 0 ] && [ "$lacking" -gt 0 ] && [ "$stackless" -eq 0 ]; then pass; else
+        fail "a round in less and less memory: $whole whole, $lacking without a thread, $stackless without a stack"
     fi
-    read -r -t 20 came <&"${FAR[0]}"
-}
-
-# node_whole_or_none serve|join WORDS: a node and a far side that follows the words, in 80 MB of address space and 2 MB less each time, until
-# the node can no longer be loaded. What it prints is whole, but for the moments, which depend on the number of turns, or nothing.
-node_whole_or_none() {
-    local kilobytes came status wanted whole=0 short=0 stackless=0
-    far_from "$1" "$2" 100000
-    wanted=$(sed 1d "$scratch/$1.output" | without_moments -)
-    [ "$status" -eq 0 ] || fail "$1 with a far side: status $status"
-    for ((kilobytes = 81920; kilobytes > 0; kilobytes -= 2048)); do
-        far_within "$kilobytes" "$1" "$2"
-        slurp "$scratch/$1.output"; output=$text
-        slurp "$scratch/$1.errors"; errors=$text
-        case $status in
-            127) break ;;
-            139) stackless=$((stackless + 1)) ;;
-            0) whole=$((whole + 1))
-                [ "$(sed 1d "$scratch/$1.output" | without_moments -)" = "$wanted" ] && [ -z "$errors" ] || fail "$1 in $kilobytes KB prints something else"
-                continue ;;
-            3) short=$((short + 1)); [ "$errors" = $'memory\n' ] || fail "$1 in $kilobytes KB: status 3, $errors" ;;
-            4) [ "$errors" = $'device\n' ] || fail "$1 in $kilobytes KB: status 4, $errors" ;;
-            *) fail "$1 in $kilobytes KB: status $status, $errors" ;;
-        esac
-        [ -z "$output" ] || fail "$1 in $kilobytes KB: status $status, and it printed something"
-    done
-    came_short "$1" "$whole" "$short" "$stackless"
-}
-
-# The far side has 256 rows with long keys taught to `join`, and itself by `serve`.
-nodes_in_less_and_less() {
-    local hello accepted lesson bytes
-    hello=$(hex 'HAProxyS 2.1\nb\na 1 1\n')
-    accepted=$(hex '200\n')
-    long_keys 256 >"$scratch/served"
-    run lesson <"$scratch/served"
-    bytes=$(sed -n 's/^bytes //p' "$scratch/output")
-    lesson=$(sed -n '/^[0-9A-F]*$/p' "$scratch/output" | tr -d '\n')
-    coproc FAR { far_side; }
-    node_whole_or_none serve "${hello}0000 <4 ~$bytes 0A840501$(printf %08X 256) <2 0003 end"
-    head -n 1 "$scratch/served" >"$scratch/tables"
-    mv "$scratch/tables" "$scratch/served"
-    node_whole_or_none join "$accepted${lesson}0001"
-    kill "$FAR_PID"
-    wait "$FAR_PID" 2>/dev/null
 }
 
 memory() {
@@ -225,10 +124,9 @@ memory() {
     keep in_50_megabytes learn <examples/learner-acks.scene
     slurp examples/learner-acks.learn
     ends 'learn of a short scene in 50 MB' 0 "$text" ''
-    lesson_in_less_and_less
     words_in_less_and_less
     subcommands_in_less_and_less
-    nodes_in_less_and_less
+    counted bin/checks/nodes.py memory
 }
 
 # --- Each allocation refused in turn

@@ -17,16 +17,15 @@ whose type it doesn't find. It first tries itself on a small repository that it 
 """
 
 import pathlib
-import re
 import sys
 import tempfile
 import textwrap
 
 sys.dont_write_bytecode = True
 TOP = pathlib.Path(__file__).resolve().parents[2]
-sys.path[:0] = [str(TOP / "bin"), str(TOP / "bin/checks")]
+sys.path[0] = str(TOP / "bin")
 
-import contracts  # noqa: E402, since the path has to be set first
+from checks import contracts  # noqa: E402, since the path has to be set first
 from reaching.program import program_of  # noqa: E402
 
 LIBRARY = "library:"
@@ -119,7 +118,8 @@ def of_readme(crates, program, parts):
 
 
 def of_promises(crates, program, parts):
-    unmade, listed = {}, {}
+    unmade: dict[str, int] = {}
+    listed: dict[str, int] = {}
     for number, heading, text, reader in parts:
         if heading not in contracts.COLUMNS:
             continue

@@ -29,6 +29,12 @@ import sys
 import threading
 import time
 
+sys.dont_write_bytecode = True
+sys.path[0] = os.path.dirname(os.path.dirname(os.path.abspath(__file__)))
+
+from harness.far import played  # noqa: E402, since the path has to be set first
+from harness.program import node_words  # noqa: E402
+
 TRACEME, CONT, SEIZE, KILL_AT_END, TRACE_THREADS = 0, 7, 0x4206, 0x100000, 8
 GET_REGISTERS, SET_REGISTERS, SET_OPTIONS = 12, 13, 0x4200
 ALL_THREADS = 0x40000000
@@ -77,7 +83,7 @@ def places(program):
 def starts(pid, entry, offsets):
     """Returns where the functions begin in a process, of which the program has them at these offsets."""
     with open(f"/proc/{pid}/auxv", "rb") as file:
-        pairs = dict(struct.iter_unpack("<QQ", file.read()))
+        pairs = {kind: value for kind, value in struct.iter_unpack("<QQ", file.read())}
     return {offset + pairs[ENTRY] - entry for offset in offsets}
 
 
@@ -162,7 +168,7 @@ class Traced:
         written = [os.pread(file, 1 << 24, 0) for file in self.files[1:]]
         for file in (self.memory, *self.files):
             os.close(file)
-        return Run(code, *written, self.calls, self.refused)
+        return Run(code, written[0], written[1], self.calls, self.refused)
 
 
 # --- A process that runs
@@ -181,7 +187,7 @@ class Running:
         for stop in self.stops:
             if os.pread(self.memory, 4, stop) != NOTHING:
                 raise SystemExit("rattle_alloc does not begin with endbr64")
-        known = set()
+        known: set[str] = set()
         while left := set(os.listdir(f"/proc/{pid}/task")) - known:
             for tid in left:
                 self.seize(int(tid))
@@ -273,53 +279,36 @@ def watch_running(pid):
 # --- A far side
 
 NODES = ("serve", "join", "rejoin")
-HELLO = b"HAProxyS 2.1\nb\na 1 1\n"
-ACCEPTED, REFUSED = b"200\n", b"502\n"
-LESSON = bytes.fromhex("0A820A01027431020404F0C40D0A850D000000010000753000000007050A860A0000753000000008F000")
-
-
-def talk(peer, words):
-    """Sends the bytes among the words; a number stands for so many bytes to read, before which the other may close. Reads the rest."""
-    peer.settimeout(PATIENCE)
-    try:
-        for word in words:
-            if isinstance(word, bytes):
-                peer.sendall(word)
-                continue
-            while word > 0:
-                came = peer.recv(word)
-                if not came:
-                    return
-                word -= len(came)
-        peer.shutdown(socket.SHUT_WR)
-        while peer.recv(4096):
-            pass
-    except OSError:
-        pass
-    finally:
-        peer.close()
+# What the far side of each does: that of `join` teaches two rows, for `rejoin` over a second connection, once it has refused the first
+# one's hello; that of `serve` asks for its two rows.
+TEACHES = (b"200\n".hex() + " ~2 0A820A01027431020404F0C40D0A850D000000010000753000000007050A860A0000753000000008F000"
+           "0001 ~10 end")
+PLAYS = {
+    "join": ["~21 " + TEACHES],
+    "rejoin": ["~21 " + b"502\n".hex() + " end", "~21 " + TEACHES],
+    "serve": [b"HAProxyS 2.1\nb\na 1 1\n".hex() + "0000 ~46 0A84050100000002 ~2 0003 end"],
+}
 
 
 def accepts(listener, kind):
-    """Plays the far side of `join`: it teaches two rows, for `rejoin` over a second connection, once it has refused the first one's hello."""
-    try:
-        if kind == "rejoin":
-            talk(listener.accept()[0], [len(HELLO), REFUSED])
-        peer, _ = listener.accept()
-    except OSError:
-        return
-    talk(peer, [len(HELLO), ACCEPTED, 2, LESSON + b"\x00\x01", 10])
+    """Plays the far side of `join` or `rejoin`."""
+    for words in PLAYS[kind]:
+        try:
+            peer, _ = listener.accept()
+        except OSError:
+            return
+        played(peer, words, PATIENCE)
 
 
 def connects(port, is_over):
-    """Plays the far side of `serve`: it asks for its two rows."""
+    """Plays the far side of `serve`."""
     while not is_over.is_set():
         try:
             peer = socket.create_connection(("127.0.0.1", port))
         except OSError:
             time.sleep(0.002)
             continue
-        talk(peer, [HELLO + b"\x00\x00", 46, bytes.fromhex("0A84050100000002"), 2, b"\x00\x03"])
+        played(peer, PLAYS["serve"][0], PATIENCE)
         return
 
 
@@ -348,9 +337,7 @@ def meets(kind, program, given, first, others):
         else:
             listener.close()
             far = threading.Thread(target=connects, args=(port, is_over))
-        own, peer = ("a", "b") if joins else ("b", "a")
-        words = ["join" if joins else "serve", "--turns", "100", "--port", str(port), "--name", own, "--peer", peer]
-        traced = Traced(program, words, given)
+        traced = Traced(program, node_words("join" if joins else "serve", port, 100), given)
         far.start()
         run = traced.run(first, others)
         is_over.set()
@@ -393,7 +380,7 @@ def wrong(what, first, run):
 
 def tells_program(what, whole, runs, others):
     """Returns what is wrong with the runs of the program, and a line about them."""
-    ended = collections.Counter()
+    ended: collections.Counter[str] = collections.Counter()
     for first, run in enumerate(runs, 1):
         if run[:3] == whole[:3]:
             ended["whole"] += 1
@@ -410,7 +397,7 @@ def tells_program(what, whole, runs, others):
 
 def tells_test(what, whole, runs, others):
     """The same of a test, which says for which calls memory ran out."""
-    met = collections.Counter()
+    met: collections.Counter[str] = collections.Counter()
     for first, run in enumerate([whole, *runs]):
         if run.status != 0:
             return [wrong(what, first, run)], ""

@@ -10,6 +10,7 @@ status is 0 only if none failed and one at least passed. A check that is skipped
 One that failed beside the others, and of which only a time was wrong, is tried once more by itself, as up to three may be; more of them
 have failed."""
 
+import importlib
 import os
 import signal
 import sys
@@ -19,15 +20,16 @@ from collections import namedtuple
 from concurrent.futures import ThreadPoolExecutor, TimeoutError as NotYet
 
 sys.dont_write_bytecode = True
-top = os.path.dirname(os.path.dirname(os.path.dirname(os.path.abspath(__file__))))
-sys.path[0] = os.path.join(top, 'bin')
+sys.path[0] = os.path.dirname(os.path.dirname(os.path.abspath(__file__)))
 
-from peering.ports import Ports  # noqa: E402, since the path has to be set first
-from peering.trial import CHECKS, Late, Skipped, Trial, Wrong  # noqa: E402
-from staying import (  # noqa: E402, F401
-    balancers, clocks, definitions, hostile, lacking, logs, measures, memory, meshes, ports, renewals, requests, resyncs,
-    sessions, starting,
-)
+from harness.ports import Ports  # noqa: E402, since the path has to be set first
+from harness.program import path_of_program  # noqa: E402
+from harness.trial import CHECKS, Late, Skipped, Trial, Wrong  # noqa: E402
+
+# The modules of bin/staying, each of which notes its checks.
+for module in ('balancers clocks definitions hostile lacking logs measures memory meshes ports renewals requests resyncs sessions '
+               'starting').split():
+    importlib.import_module('staying.' + module)
 
 AT_ONCE = 20
 # All checks have to end in so many seconds.
@@ -49,7 +51,7 @@ ALL = os.environ.get('DIGBARO_ALL_CHECKS') == '1'
 # What became of a check: the first word of its line, why it failed or was skipped, and whether only a time was wrong.
 Result = namedtuple('Result', 'word why is_late')
 
-trials = []
+trials: list[Trial] = []
 
 
 def give_up(*_):
@@ -103,7 +105,8 @@ def in_order(names):
 def run(program, names):
     """Runs checks, prints a line for each, and returns the status."""
     ports, counts = Ports(), dict.fromkeys(('passed', 'FAILED', 'skipped'), 0)
-    begun, again = time.monotonic(), []
+    begun = time.monotonic()
+    again: list[str] = []
     pool = ThreadPoolExecutor(AT_ONCE)
     running = [(name, pool.submit(tried, program, ports, CHECKS[name])) for name in in_order(names)]
     for name, check in running:
@@ -135,10 +138,7 @@ def main(words):
     if strange:
         print('no such check: %s; staying.py --list has their names' % ' '.join(strange), file=sys.stderr)
         return 2
-    program = os.path.abspath(os.environ.get('PEERS_NODE') or os.path.join(top, 'crates/peers_node/out/peers_node'))
-    if not os.access(program, os.X_OK):
-        print('no program: ' + program, file=sys.stderr)
-        return 1
+    program = path_of_program()
     signal.signal(signal.SIGTERM, give_up)
     signal.signal(signal.SIGINT, give_up)
     return run(program, words or list(CHECKS))

@@ -13,12 +13,11 @@ from collections import Counter
 
 from fuzzing import kinds
 from fuzzing.keeping import Folder, kept_case, kept_name
-from fuzzing.programs import Program
+from harness.program import TOP, Program, path_of_program
 from fuzzing.shrinking import complaint_of, shrunk
 
 MOST_FAILURES = 20
 SECONDS_TO_SHRINK = 20
-TOP = os.path.dirname(os.path.dirname(os.path.dirname(os.path.abspath(__file__))))
 
 
 def arguments(words):
@@ -43,15 +42,11 @@ def arguments(words):
 
 
 def built_program():
-    """Returns the path of the program to try: PEERS_NODE, or the built one, which is built if need be."""
-    named = os.environ.get('PEERS_NODE')
-    path = os.path.realpath(named) if named else os.path.join(TOP, 'crates/peers_node/out/peers_node')
-    if not named:
+    """Returns the path of the program to try, which is built if need be."""
+    if not os.environ.get('PEERS_NODE'):
         with open(os.path.join(TOP, 'examples/empty-batch.scene'), 'rb') as scene:
             subprocess.run([os.path.join(TOP, 'bin/peers_node'), 'lesson'], stdin=scene, stdout=subprocess.DEVNULL, check=False)
-    if not os.access(path, os.X_OK):
-        sys.exit('bin/fuzz: there is no program at ' + path)
-    return path
+    return path_of_program()
 
 
 def case_of(seed, number, chosen):
@@ -66,7 +61,7 @@ class Worker:
 
     def __init__(self, program, seed, chosen, folder):
         self.program, self.seed, self.chosen, self.folder = program, seed, chosen, folder
-        self.counts = Counter()
+        self.counts: Counter[str] = Counter()
         self.began = time.monotonic()
 
     def run(self, number):
@@ -116,7 +111,7 @@ def run_worker(path, seed, options, folder, following, failures, latest, results
 def fuzz(path, seed, options, folder):
     """Runs workers until all have ended. Returns their counts and how many cases failed."""
     following, failures = multiprocessing.Value('q', 0), multiprocessing.Value('q', 0)
-    results = multiprocessing.SimpleQueue()
+    results: multiprocessing.SimpleQueue = multiprocessing.SimpleQueue()
     latest = time.monotonic() + options.seconds
     given = path, seed, options, folder, following, failures, latest, results
     workers = [multiprocessing.Process(target=run_worker, args=given, daemon=True) for _ in range(options.jobs)]
@@ -124,10 +119,10 @@ def fuzz(path, seed, options, folder):
         worker.start()
     for worker in workers:
         worker.join()
-    counts = Counter()
+    counts: Counter[str] = Counter()
     while not results.empty():
         counts.update(results.get())
-    return counts, failures.value + sum(1 for worker in workers if worker.exitcode != 0)
+    return counts, failures.get_obj().value + sum(1 for worker in workers if worker.exitcode != 0)
 
 
 def run_again(program, folder):
@@ -158,7 +153,7 @@ def run_only(path, seed, options, folder):
     """Runs one case of a seed. Returns the counts, and how many cases failed."""
     worker = Worker(Program(path, options.patience), seed, options.kinds, folder)
     failed = int(not worker.run(options.only))
-    return Counter(worker.counts, decoded=worker.program.decoded, sessions=worker.program.sessions), failed
+    return worker.counts + Counter(decoded=worker.program.decoded, sessions=worker.program.sessions), failed
 
 
 def report(counts, failed, seed, folder, seconds):

@@ -4,9 +4,9 @@ import ipaddress
 import re
 
 from fuzzing.lines import spoil_line
-from fuzzing.programs import require
+from harness.program import require
 from fuzzing.standing import random_local_roster
-from fuzzing.tables import random_name, random_table, table_line
+from harness.tables import random_name, random_table, table_line
 
 # What is said of each fault, and at most how many faults are named.
 FAULT = re.compile(rb'(?:configuration|line ([1-9][0-9]*)): [ -~]+\n')
@@ -171,7 +171,7 @@ def table_warnings(number, words):
 def warned(data):
     """Returns the number of the line for each warning of a configuration that is taken, and `configuration` if it has no peers."""
     said = statements(data)
-    numbers = []
+    numbers: list = []
     sections = any(words[0] == b'table' and words[2][:1] == b'/' for _, words in said)
     for number, words in said:
         numbers += address_warnings(said, number, words)
@@ -202,14 +202,14 @@ def checked(program, data):
         return 'taken'
     said, warnings = parted(ending.errors)
     require(1 <= len(said) <= MOST and all(FAULT.fullmatch(line) for line in said), 'standard error', 'of run --check', ending.errors)
-    found = [FAULT.fullmatch(line)[1] for line in said]
-    numbers = [int(number) for number in found if number]
-    require(numbers == sorted(set(numbers)) and None not in found[:len(numbers)], 'standard error', 'is not in the order of lines', ending.errors)
+    heads = [FAULT.fullmatch(line)[1] for line in said]
+    numbers = [int(number) for number in heads if number]
+    require(numbers == sorted(set(numbers)) and None not in heads[:len(numbers)], 'standard error', 'is not in the order of lines', ending.errors)
     require(all(WARNING.fullmatch(line) for line in warnings), 'standard error', 'has faults behind warnings', ending.errors)
     places = [int(WARNING.fullmatch(line)[1] or 0) for line in warnings]
     alone = len(numbers) < MOST and all(words[0] != b'peer' for _, words in statements(data))
     require(not set(places) & set(numbers) and places.count(0) == alone, 'the lines that are warned of', 'beside faults', ending.errors)
-    return numbers + ['configuration'] * found.count(None)
+    return [*numbers, *['configuration'] * heads.count(None)]
 
 
 def words_of(line):

@@ -12,11 +12,12 @@ import socket
 import time
 
 from fuzzing.guests import HELLO
-from fuzzing.programs import require
 from fuzzing.sessions import ACCEPTED
 from fuzzing.standing import MARK, NAME, Stand, random_local_roster, random_rounds, stood
-from fuzzing.tables import Table
-from peering.far import OLDER_VERSION, VERSION, hello, kept_open
+from harness.far import kept_open
+from harness.program import require
+from harness.tables import Table
+from harness.wire import OLDER_VERSION, VERSION, hello
 
 PEERS = (b'b', b'c', b'd')
 LONGEST_LINE = 512
@@ -25,7 +26,7 @@ THIRD = re.compile(rb'([^ \0]{1,255}) [0-9]+ [0-9]+', re.DOTALL)
 
 def status_for(said):
     """Returns the status that answers the bytes of a hello, or nothing while it isn't whole."""
-    lines = []
+    lines: list[bytes] = []
     while len(lines) < 3:
         line, end, said = said.partition(b'\n')
         if len(line) > LONGEST_LINE:

@@ -13,15 +13,15 @@ import re
 import socket
 import time
 
-from fuzzing.messages import UPDATES, framed
-from fuzzing.programs import require
 from fuzzing.received import Learner, spelled
 from fuzzing.rows import learner_scene, read_learned, read_rows
 from fuzzing.sessions import ACCEPTED, IMPATIENT, Far, hostile_act, random_hello, sound_acts, without_rates
 from fuzzing.standing import MARK, NAME, WATCHED, Stand, random_local_roster, random_rounds, stood
 from fuzzing.streams import Talk
-from fuzzing.tables import FIRST_MOMENT, Table
-from peering.far import HEARTBEAT, hello, kept_open
+from harness.far import kept_open
+from harness.program import require
+from harness.tables import FIRST_MOMENT, Table
+from harness.wire import HEARTBEAT, UPDATES, framed, hello
 
 HELLO = hello(NAME.decode(), 'c')
 ITS_HELLO = re.compile(rb'HAProxyS 2\.1\nd\nn [0-9]+ [0-9]+\n')
@@ -111,7 +111,7 @@ class Guest(Far):
         """Waits for the status that answers its hello. Behind it messages begin."""
         require(self.pump(until=lambda: b'\n' in self.came), 'slow', 'no status of a node that stays')
         require(self.came.startswith(status), 'a status', '', bytes(self.came[:30]))
-        self.begun = self.read_to = len(status)
+        self.expect_messages(len(status))
         self.sent.clear()
 
     def sync(self, pieces):
@@ -130,7 +130,7 @@ class Guest(Far):
             self.pump(bytes(self.sent))
 
     def echo(self):
-        self.pump(bytes(self.lessons))
+        self.pump(bytes(self.taught))
 
     def beat(self):
         self.pump(HEARTBEAT)
@@ -241,7 +241,7 @@ class Visitor:
         ended = self.ended(roster, lived)
         self.judge_same('rows', without_rates(shown, roster), without_rates(wanted, roster), ended)
         if self.has_asked:
-            back = stand.program.read('learn', learner_scene(roster, FIRST_MOMENT, [bytes(self.guest.lessons)]))
+            back = stand.program.read('learn', learner_scene(roster, FIRST_MOMENT, [bytes(self.guest.taught)]))
             taught = read_learned(back.output, roster, FIRST_MOMENT)[0]
             taught = {place: row for place, row in taught.items() if place not in ended}
             self.judge_same('a resync', without_rates(taught, roster), without_rates(wanted, roster), ended)

@@ -5,7 +5,7 @@ import os
 import re
 import tempfile
 
-from fuzzing.tables import Table
+from harness.tables import Table
 
 
 def plain(value):

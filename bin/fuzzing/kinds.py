@@ -8,12 +8,12 @@ from collections import namedtuple
 
 from fuzzing import configurations, doors, guests, lessons, requests, scripts, sessions, worlds
 from fuzzing.lines import spoil_line
-from fuzzing.messages import framed
-from fuzzing.programs import differing, fault_of, refused_line, require, text
+from harness.wire import framed
+from harness.program import differing, fault_of, refused_line, require, text
 from fuzzing.received import Learner, learned, spelled
 from fuzzing.rows import learner_scene, read_learned, read_rows, without_moments
 from fuzzing.streams import Talk, cut, random_moment, spoilt, with_other_expires
-from fuzzing.tables import FIRST_MOMENT, TYPES, Table, random_roster, table_line
+from harness.tables import FIRST_MOMENT, TYPES, Table, random_roster, table_line
 
 Kind = namedtuple('Kind', 'name weight make judge shrinks loose')
 # How often a stream comes at most, and how many bytes that are then, unless it has more than half as many itself.
@@ -110,7 +110,7 @@ def make_check(random):
 
 
 def scene_of(case):
-    return lessons.Scene(tables_of(case), *case['start'], [tuple(update) for update in case['updates']])
+    return lessons.Scene._make((tables_of(case), *case['start'], [tuple(update) for update in case['updates']]))
 
 
 def judge_check(program, case):
@@ -336,7 +336,7 @@ def judge_learned(program, case, ending, far, rows):
 
 def judge_taught(program, far, roster, rows, turns):
     """What a node taught in a resync, `learn` reads back as the node's rows that hadn't ended."""
-    back = program.read('learn', learner_scene(roster, FIRST_MOMENT, [bytes(far.lessons)]))
+    back = program.read('learn', learner_scene(roster, FIRST_MOMENT, [bytes(far.taught)]))
     require(back.status == 0, 'a lesson', 'of a session has a fault', back.errors)
     taught = sessions.without_rates(read_learned(back.output, roster, FIRST_MOMENT)[0], roster)
     shown = sessions.without_rates(rows, roster)

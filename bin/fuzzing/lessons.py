@@ -2,10 +2,10 @@
 
 from collections import namedtuple
 
-from fuzzing.messages import encoded
-from fuzzing.received import Received, spelled, update_data
-from fuzzing.tables import (GREATEST, definition_data, edge, has_names, key_word, life_word, random_key, random_life, random_name,
+from fuzzing.received import Received, spelled
+from harness.tables import (GREATEST, edge, has_names, key_word, life_word, random_key, random_life, random_name,
                             random_roster, random_values, table_line, value_words)
+from harness.wire import definition_data, encoded, update_data
 
 SLOTS = 128
 GREATEST_PRICE = 2 ** 32
@@ -86,7 +86,7 @@ class Known(Received):
 def before_the_scene(scene, tables):
     """Returns messages that bring a new learner to what a scene says is known at the start. Slots are written by updates of a
     stranger's table, which `tables` has at its end."""
-    said = []
+    said: list[tuple] = []
     stranger = len(tables) - 1
     if scene.slots:
         said.append(('define', stranger, tables[stranger].id, 0))

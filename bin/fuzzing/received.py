@@ -11,29 +11,8 @@ Messages are tuples. Tables are given by their place in a list of the case, of w
   raw BYTES                                        bytes of which nothing is known
 """
 
-from fuzzing.messages import DEFINITION, SWITCH, TABLE_CLASS, UPDATE_TYPES, encoded, message
-from fuzzing.tables import (GREATEST_MOMENT, definition_data, has_names, key_bytes, key_word, name_word, shape, value_bytes,
-                            value_words)
-
-
-def name_field(name):
-    if name[0] == 'none':
-        return b'\0'
-    data = encoded(name[1])
-    if name[0] == 'write':
-        data += encoded(len(name[2])) + name[2]
-    return encoded(len(data)) + data
-
-
-def update_data(table, number, life, key, values, name):
-    fields = [key_bytes(table, key), value_bytes(values)]
-    if life is not None:
-        fields.insert(0, life.to_bytes(4, 'big'))
-    if number is not None:
-        fields.insert(0, number.to_bytes(4, 'big'))
-    if name is not None:
-        fields.append(name_field(name))
-    return b''.join(fields)
+from harness.tables import GREATEST_MOMENT, has_names, key_word, name_word, shape, value_words
+from harness.wire import DEFINITION, TABLE_CLASS, UPDATE_TYPES, definition_data, message, switch, update_data
 
 
 def spelled(said, tables):
@@ -46,7 +25,7 @@ def spelled(said, tables):
     if what == 'define':
         return message(TABLE_CLASS, DEFINITION, definition_data(tables[said[1]], said[2], said[3]))
     if what == 'switch':
-        return message(TABLE_CLASS, SWITCH, encoded(said[1]))
+        return switch(said[1])
     if what == 'other':
         return message(said[1], said[2], said[3])
     return said[3] if what == 'breach' else said[1]

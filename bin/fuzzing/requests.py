@@ -15,12 +15,12 @@ import socket
 import time
 
 from fuzzing.lines import spoil_line
-from fuzzing.programs import require, short
 from fuzzing.rows import NUMBER, row_pattern
 from fuzzing.scripts import REFUSALS, change_words, short_keys
 from fuzzing.standing import MARK, Stand, random_local_roster, random_rounds, stood
-from fuzzing.tables import Table
-from peering.far import kept_open
+from harness.node import Admin
+from harness.program import require, short
+from harness.tables import Table
 
 LONGEST = 32768
 # How many connections the port serves at once, and how many of these belong to the stand for as long as the node runs.
@@ -123,62 +123,43 @@ def due_for(data):
 
 # --- Clients
 
-class Reader:
-    """A connection to the admin port, read line by line."""
+class Reader(Admin):
+    """A connection to the admin port, which is read line by line, in time."""
 
     def __init__(self, client):
-        self.client = client
-        self.peer = kept_open(('127.0.0.1', client.stand.node.admin_port))
-        self.left, self.is_over = b'', False
+        super().__init__(client.stand.node.admin_port)
+        self.limit = client.limit
 
-    def more(self, seconds):
-        """Reads what comes. Returns whether something did in time, or the connection is over."""
-        self.peer.settimeout(max(0.001, seconds))
-        try:
-            data = self.peer.recv(1 << 16)
-        except socket.timeout:
-            return False
-        except OSError:
-            data = b''
-        self.is_over = not data
-        self.left += data
-        return True
+    def wait(self, holds, what):
+        """Waits until something holds, or the connection is over."""
+        latest = time.monotonic() + self.limit
+        while not holds() and not self.ended:
+            require(self.more(latest - time.monotonic()), 'slow', what + ' for %g s' % self.limit)
 
-    def wait(self):
-        """Waits until the next line has come, or the connection is over."""
-        latest = time.monotonic() + self.client.limit
-        while b'\n' not in self.left and not self.is_over:
-            require(self.more(latest - time.monotonic()), 'slow', 'a request is not answered in %g s' % self.client.limit)
-
-    def line(self):
+    def read(self):
         """Returns the next line, or None if the connection is over before it ends."""
-        self.wait()
-        if b'\n' not in self.left:
+        self.wait(lambda: self.whole, 'a request is not answered')
+        if not self.whole:
             return None
-        line, _, self.left = self.left.partition(b'\n')
+        line = self.whole.popleft()
         require(LINE.fullmatch(line), 'an answer', 'has other bytes than those from 32 to 126:', line)
         return line
 
-    def rest(self):
+    def all_left(self):
         """Returns all that comes until the connection is over."""
-        latest = time.monotonic() + self.client.limit
-        while not self.is_over:
-            require(self.more(latest - time.monotonic()), 'slow', 'the admin port keeps a connection for %g s' % self.client.limit)
-        return self.left
+        self.wait(lambda: False, 'the admin port keeps a connection')
+        return self.unread()
 
-    def send(self, data, pieces=1):
+    def say(self, data, pieces=1):
         """Sends bytes in so many pieces, if the other end takes them."""
         try:
-            self.peer.settimeout(self.client.limit)
+            self.peer.settimeout(self.limit)
             for at in range(pieces):
                 self.peer.sendall(data[at * len(data) // pieces:(at + 1) * len(data) // pieces])
                 if pieces > 1:
                     time.sleep(0.002)
         except OSError:
             pass
-
-    def close(self):
-        self.peer.close()
 
 
 class Client:
@@ -213,9 +194,9 @@ class Client:
         latest = time.monotonic() + self.limit
         while True:
             reader = self.opened()
-            reader.send(data, pieces)
-            reader.wait()
-            if not reader.left.startswith(b'busy\n'):
+            reader.say(data, pieces)
+            reader.wait(lambda: reader.whole, 'a request is not answered')
+            if not reader.unread().startswith(b'busy\n'):
                 return reader
             reader.close()
             if not self.free():
@@ -235,16 +216,16 @@ class Client:
         """Reads the answers to lines up to the first that is refused, and returns the lines behind it. If one of these were obeyed all the
         same, its answer over the next connection would show it."""
         for place, line in enumerate(lines):
-            first = answer = reader.line()
+            first = answer = reader.read()
             require(answer is not None, 'an answer', 'is missing, to:', line)
             if line.split(b' ')[0] == b'show':
                 while answer != b'.':
-                    answer = reader.line()
+                    answer = reader.read()
                     require(answer is not None, 'an answer', 'has no end, to:', line)
             else:
                 self.judge(line, answer)
             if first == b'refused':
-                require(reader.rest() == b'', 'an answer', 'behind one to a line that is refused:', line, reader.left)
+                require(reader.all_left() == b'', 'an answer', 'behind one to a line that is refused:', line, reader.unread())
                 return lines[place + 1:]
         return []
 
@@ -292,26 +273,26 @@ class Client:
         reader = self.served(data)
         if reader is None:
             return
-        answer = reader.line()
+        answer = reader.read()
         wanted = b'NoTable' if length <= LONGEST else b'refused'
         require(answer == wanted, 'an answer', 'to a request of %d bytes:' % length, answer)
-        require(length <= LONGEST or reader.rest() == b'', 'an answer', 'behind a request that is too long', reader.left)
+        require(length <= LONGEST or reader.all_left() == b'', 'an answer', 'behind a request that is too long', reader.unread())
         reader.close()
 
     def incomplete(self, data):
         """An incomplete request has no answer, and its connection stays open, unless there is none for it."""
         reader = self.opened()
-        reader.send(data)
+        reader.say(data)
         latest = time.monotonic() + QUIET
-        while not reader.is_over and time.monotonic() < latest:
+        while not reader.ended and time.monotonic() < latest:
             reader.more(latest - time.monotonic())
-        is_right = reader.left == b'busy\n' if reader.is_over else reader.left in (b'', b'busy\n')
-        require(is_right, 'an incomplete request', 'is answered, or its connection closed:', data, reader.left)
+        is_right = reader.unread() == b'busy\n' if reader.ended else reader.unread() in (b'', b'busy\n')
+        require(is_right, 'an incomplete request', 'is answered, or its connection closed:', data, reader.unread())
         reader.close()
 
     def half(self, data):
         self.held += 1
-        self.opened().send(data)
+        self.opened().say(data)
 
     def crowd(self, count):
         """As many as there is room for are served at once. Of the others some go for those that come later, and some are told that there is
@@ -325,8 +306,8 @@ class Client:
         """Returns how many of so many clients are served at once."""
         readers = [self.opened() for _ in range(count)]
         for reader in readers:
-            reader.send(b'get %s 7\n' % MARK)
-        answers = [reader.line() for reader in readers]
+            reader.say(b'get %s 7\n' % MARK)
+        answers = [reader.read() for reader in readers]
         served = answers.count(b'NoTable')
         require(all(answer in (b'NoTable', b'busy', None) for answer in answers), 'an answer', 'to one of a crowd:', answers)
         for reader in readers:
@@ -356,7 +337,7 @@ class Client:
         reader = self.served(data)
         if reader is None:
             return
-        came = reader.rest()
+        came = reader.all_left()
         if due == 'refused':
             require(came == b'refused\n', 'an answer', 'to HTTP:', data, came)
         else:
@@ -376,12 +357,12 @@ class Client:
     def rubbish(self, data):
         """What no client says. What comes back is whole lines, and the connection is closed at the end of the input."""
         reader = self.opened()
-        reader.send(data)
+        reader.say(data)
         try:
             reader.peer.shutdown(socket.SHUT_WR)
         except OSError:
             return
-        came = reader.rest()
+        came = reader.all_left()
         require(came[-1:] in (b'', b'\n') and all(LINE.fullmatch(line) for line in came.split(b'\n')), 'an answer', 'to rubbish:', short(came))
         reader.close()
 

@@ -2,8 +2,8 @@
 
 import re
 
-from fuzzing.programs import require, text
-from fuzzing.tables import GREATEST, RATES, counted, greatest, has_names, table_line
+from harness.program import require, text
+from harness.tables import GREATEST, RATES, counted, greatest, has_names, table_line
 
 NUMBER = rb'(?:0|[1-9][0-9]*)'
 KEYS = {

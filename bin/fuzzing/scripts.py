@@ -2,9 +2,9 @@
 
 import re
 
-from fuzzing.programs import require, short
+from harness.program import require, short
 from fuzzing.rows import KEYS, NUMBER, key_of, row_pattern
-from fuzzing.tables import (FIRST_MOMENT, GREATEST, GREATEST_MOMENT, RATES, SERVER_KEY, TYPES, edge, greatest, has_names, key_word, life_word,
+from harness.tables import (FIRST_MOMENT, GREATEST, GREATEST_MOMENT, RATES, SERVER_KEY, TYPES, edge, greatest, has_names, key_word, life_word,
                             name_word, random_key, random_name, random_table, random_values, table_line, value_words)
 
 REFUSALS = {

@@ -20,13 +20,13 @@ import struct
 import subprocess
 import time
 
-from fuzzing.messages import DEFINITION, SWITCH, TABLE_CLASS, UPDATES, acknowledgement, decoded, encoded, framed, framed_length, message
-from fuzzing.programs import FAULT_LINE, Complaint, require
 from fuzzing.received import spelled
 from fuzzing.rows import read_rows, without_moments
 from fuzzing.streams import OVER, Talk, spoilt
-from fuzzing.tables import FIRST_MOMENT, GREATEST, RATES, Table, counted, definition_data, edge, shape
-from peering.lessons import Misread, read_definition
+from harness.program import FAULT_LINE, Complaint, node_words, require
+from harness.tables import FIRST_MOMENT, GREATEST, RATES, Table, counted, edge, shape
+from harness.wire import (ACKNOWLEDGEMENT, DEFINITION, SWITCH, TABLE_CLASS, UPDATES, Heard, Misread, acknowledgement,
+                          definition, encoded, framed, message, read_definition)
 
 HELLOS = b'HAProxyS 2.1\nb\na 1 1\n', b'HAProxyS 2.0\nb\na 1 1\n'
 ITS_HELLO = re.compile(rb'HAProxyS 2\.1\nb\na [0-9]+ [0-9]+\n')
@@ -42,7 +42,7 @@ ASKING = [('other', 0, 0), ('other', 0, 1), ('other', 0, 2), ('other', 1, 0), ('
 
 def sound_acts(random, talk):
     """Returns acts that keep to the protocol: updates, each table's acknowledged before the next ones are sent, and a resync."""
-    acts = []
+    acts: list[tuple] = []
     for _ in range(random.choice((1, 1, 3, 10))):
         before = len(talk.messages)
         talk.grow(before + random.choice((1, 3, 20, 60)))
@@ -77,12 +77,6 @@ def hostile_act(random, talk):
         return random.choice((('wait',), ('deaf',)))
     pieces = [spelled(said, talk.tables) for said in talk.grow(len(talk.messages) + random.choice((1, 5, 50))).messages] or [b'\0\4']
     return random.choice(('send', 'slow')), b''.join(spoilt(random, pieces)[0])
-
-
-def definition(number):
-    """Returns the definition of a table that nobody has."""
-    table = Table(100 + number, b'd%d' % number, 'integer', 4, 0, (), ())
-    return message(TABLE_CLASS, DEFINITION, definition_data(table, table.id, table.expire))
 
 
 def random_hello(random, node):
@@ -123,12 +117,13 @@ def random_session(random, roster, updates):
 
 # --- The far side
 
-class Far:
+class Far(Heard):
     """One end of a connection. `came` is all that was read, and `sent` what was sent after the hello. `learner` knows what a learner has of
     the messages said. `limit` is how long the other end may take, in seconds, and `patience` how long the far side waits for what may
     not come. `is_behind` is whether the other end may not have read yet what was sent, since nobody waited for an acknowledgement."""
 
     def __init__(self, peer, limit, learner):
+        super().__init__()
         peer.setblocking(False)
         peer.setsockopt(socket.IPPROTO_TCP, socket.TCP_NODELAY, 1)
         self.peer = peer
@@ -138,14 +133,10 @@ class Far:
         self.said = b''
         self.is_over = self.is_reset = self.is_deaf = False
         self.begun = 0
-        self.read_to = 0
-        self.acks = []
-        self.replaced = set()
+        self.replaced: set[int] = set()
         self.is_behind = False
-        self.lessons = bytearray()
-        self.numbers = {}
-        self.updates = {}
-        self.selected = None
+        self.taught = bytearray()
+        self.updates: dict[int, int] = {}
         self.ends = 0
         self.errors = 0
         self.limit = self.patience = limit
@@ -179,40 +170,36 @@ class Far:
 
     def take(self, data):
         """Keeps what was read, and looks at the messages in it."""
-        if not data:
-            self.is_over = True
+        self.is_over = self.is_over or not data
         self.came += data
-        if not self.begun:
-            return
-        for place, class_byte, type_byte, content in framed(bytes(self.came[self.read_to:])):
-            self.look_at(class_byte, type_byte, content)
-        self.read_to += framed_length(bytes(self.came[self.read_to:]))
+        if self.begun:
+            self.hear(data)
+
+    def hear(self, data):
+        try:
+            super().hear(data)
+        except Misread as error:
+            raise Complaint('a lesson', str(error)) from None
 
     def look_at(self, class_byte, type_byte, data):
         require(self.errors == 0, 'a message', 'after an error message', type_byte)
-        if class_byte == TABLE_CLASS and type_byte == 132:
-            identifier, place = decoded(data, 0)
-            self.acks.append((identifier, int.from_bytes(data[place:], 'big')))
-        elif class_byte == TABLE_CLASS:
+        if class_byte == TABLE_CLASS and type_byte != ACKNOWLEDGEMENT:
             require(type_byte in UPDATES or type_byte in (DEFINITION, SWITCH), 'a message', 'of no type', type_byte)
-            self.lessons += message(class_byte, type_byte, data)
-            if type_byte in UPDATES:
-                last = self.numbers.get(self.selected)
-                require(type_byte in (128, 133) or last is not None, 'a lesson', 'without a first number', data)
-                number = int.from_bytes(data[:4], 'big') if type_byte in (128, 133) else last + 1 & GREATEST
-                self.numbers[self.selected] = self.updates[self.selected] = number
-            else:
-                self.selected = decoded(data, 0)[0]
+            self.taught += message(class_byte, type_byte, data)
+            update = self.lessons.take(type_byte, data)
+            if update is not None:
+                self.updates[update.id] = update.number
         elif class_byte == 0:
             require(type_byte < 4, 'a message', 'of no type', type_byte)
             self.ends += type_byte in (1, 2)
-        else:
+        elif class_byte != TABLE_CLASS:
             require((class_byte, type_byte) in ((1, 0), (1, 1)), 'a message', 'of no type', (class_byte, type_byte))
             self.errors += 1
 
-    def expect_messages(self):
-        """From here on what comes is messages."""
-        self.begun = self.read_to = len(self.came)
+    def expect_messages(self, place=None):
+        """From here on, or from a place in what came, all is messages."""
+        self.begun = len(self.came) if place is None else place
+        self.hear(bytes(self.came[self.begun:]))
 
     # --- Acts
 
@@ -229,7 +216,8 @@ class Far:
         self.pump(data * times)
 
     def define(self, count):
-        self.pump(b''.join(map(definition, range(count))))
+        """Defines so many tables that nobody has."""
+        self.pump(b''.join(definition(Table(100 + number, b'd%d' % number, 'integer', 4, 0, (), ())) for number in range(count)))
 
     def wait(self):
         self.pump(until=lambda: False, seconds=0.02)
@@ -338,8 +326,7 @@ def started(program, node, turns, text, learner):
                 listener.listen()
                 listener.settimeout(program.patience)
             port = listener.getsockname()[1] if node == 'join' else free_port()
-            names = ('a', 'b') if node == 'join' else ('b', 'a')
-            words = (node, '--turns', str(turns), '--port', str(port), '--name', names[0], '--peer', names[1])
+            words = node_words(node, port, turns)
             program.note(words, text)
             child = program.start(*words)
             child.stdin.write(text)
@@ -403,7 +390,9 @@ def stop(child, error):
 def moved_ids(stream):
     """Returns the ids whose table a definition takes, or replaces by another. What is acknowledged of them depends on how the stream is cut
     into reads."""
-    tables, holders, moved = {}, {}, set()
+    tables: dict = {}
+    holders: dict = {}
+    moved: set[int] = set()
     for _, class_byte, type_byte, data in framed(stream):
         if (class_byte, type_byte) != (TABLE_CLASS, DEFINITION):
             continue
@@ -432,7 +421,7 @@ def judge_ending(session, ending, far, roster):
     else:
         require(FAULT_LINE.fullmatch(ending.errors), 'standard error', '', ending.errors)
     if seen and far.begun:
-        require(framed_length(bytes(far.came[far.begun:])) == len(far.came) - far.begun, 'half a message', '', bytes(far.came[-60:]))
+        require(not far.left, 'half a message', '', bytes(far.came[-60:]))
         require(ending.status == 0 or far.errors, 'a fault', 'without an error message', ending.errors)
         if ending.status == 1:
             kind = b'\1\1' if b'SizeLimit' in ending.errors else b'\1\0'

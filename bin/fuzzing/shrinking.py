@@ -2,7 +2,7 @@
 
 import time
 
-from fuzzing.programs import Complaint
+from harness.program import Complaint
 
 LONGEST_BYTES, MOST_PARTS = 4096, 10
 

@@ -10,13 +10,12 @@ import subprocess
 import threading
 import time
 
-from fuzzing.programs import Complaint, require
-from fuzzing.tables import GREATEST, Table, random_roster, table_line
-from peering.far import STAMPS, Manners, connected, kept_open
-from peering.logs import all_said
-from peering.node import Node, address
-from peering.ports import Ports
-from peering.trial import Trial, Wrong, wait
+from harness.far import STAMPS, Manners, connected, kept_open, stamped
+from harness.node import Node, address, all_said
+from harness.ports import Ports
+from harness.program import Complaint, require
+from harness.tables import GREATEST, Table, random_roster, table_line
+from harness.trial import Trial, Wrong, wait
 
 NAME = b'n'
 # What is in all that a peer, a stranger or a client may choose, so that it can be looked for in the log.
@@ -113,15 +112,15 @@ class Watch:
         """Makes a change over the connection that there is. Returns the answer."""
         before = kept_waiting(self.node.child)
         self.peer.sendall(b'track watched %d add gpc0 1\n' % (self.answers % KEYS))
-        begun, line = time.time(), b''
+        begun, line = time.monotonic(), b''
         while not line.endswith(b'\n'):
-            data, notes, _, _ = self.peer.recvmsg(1 << 16, 64)
+            data, moment = stamped(self.peer)
             if not data:
                 raise ConnectionError('the connection is over')
             line += data
         if line == b'busy\n':
             return line
-        late = self.stamp(notes) - begun
+        late = moment - begun
         if late > ANSWERED:
             late -= held_up(before, kept_waiting(self.node.child))
         self.slowest = max(self.slowest, late)
@@ -129,12 +128,6 @@ class Watch:
         if not re.fullmatch(rb'reply [0-9]+ - [0-9]+ [0-9]+ local\n', line):
             self.wrong = 'the answer to a change: %r' % line
         return line
-
-    def stamp(self, notes):
-        for level, kind, data in notes:
-            if (level, kind) == (socket.SOL_SOCKET, STAMPS):
-                return int.from_bytes(data[:8], 'little') + int.from_bytes(data[8:16], 'little') / 1e9
-        return time.time()
 
     def judge(self):
         """Ends the client after one more change, and says what was wrong with its answers."""

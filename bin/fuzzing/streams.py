@@ -1,9 +1,10 @@
 """Random streams: valid ones, message by message, and spoilt ones."""
 
-from fuzzing.messages import DEFINITION, LONGEST_DATA, TABLE_CLASS, UPDATE_TYPES, encoded, message
-from fuzzing.received import Learner, name_field, update_data
-from fuzzing.tables import (FIRST_MOMENT, GREATEST, GREATEST_MOMENT, SERVER_KEY, definition_data, edge, random_key, random_name,
-                            random_table, random_values, value_bytes)
+from fuzzing.received import Learner
+from harness.tables import (FIRST_MOMENT, GREATEST, GREATEST_MOMENT, SERVER_KEY, edge, random_key, random_name, random_table,
+                            random_values)
+from harness.wire import (DEFINITION, LONGEST_DATA, TABLE_CLASS, UPDATE_TYPES, definition_data, encoded, message, name_field,
+                          update_data, value_bytes)
 
 LONG, MOST_WITH_LONG_KEYS = 1000, 100
 OVER = bytes.fromhex('FFF0FEFEFEFEFEFEFE0F')

@@ -2,10 +2,10 @@
 
 import re
 
-from fuzzing.programs import require
+from harness.program import require
 from fuzzing.rows import NUMBER, key_of, row_pattern
 from fuzzing.scripts import HISTORY, change_words, next_moment, short_keys, update_words
-from fuzzing.tables import FIRST_MOMENT, GREATEST, GREATEST_MOMENT, RATES, counted, edge, random_roster, table_line
+from harness.tables import FIRST_MOMENT, GREATEST, GREATEST_MOMENT, RATES, counted, edge, random_roster, table_line
 
 # More bytes than any lesson here has; a delivery of more bytes than there are changes nothing.
 DRAIN = 1 << 18

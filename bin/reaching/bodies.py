@@ -43,10 +43,11 @@ class Body(Reader):
 
     def __init__(self, program, function):
         super().__init__(function.module, None)
-        self.program, self.function = program, function
+        self.program, self.of_function = program, function
         self.scope = program.scope(function)
         # The types of the variables, and of what a closure among the arguments that follow gets.
-        self.variables, self.given = {}, ()
+        self.variables: dict = {}
+        self.given: tuple = ()
         # The methods that are called on what has no known type, with the tokens before them.
         self.unknown = []
 
@@ -54,12 +55,12 @@ class Body(Reader):
         return self.program.resolved(written, self.scope)
 
     def run(self):
-        if self.function.has_self:
+        if self.of_function.has_self:
             self.variables["self"] = self.scope.self_type
-        for begin, written in self.function.inputs:
+        for begin, written in self.of_function.inputs:
             self.bind(begin, self.resolve(written))
-        self.resolve(self.function.output)
-        begin, end = self.function.body
+        self.resolve(self.of_function.output)
+        begin, end = self.of_function.body
         self.at = begin
         while self.at < end:
             self.expression()
@@ -257,7 +258,8 @@ class Body(Reader):
 
     def closure(self, bare):
         given, self.given = self.given, ()
-        outer, inputs = dict(self.variables), []
+        outer = dict(self.variables)
+        inputs: list = []
         self.take("move")
         if self.take("||") is None:
             self.want("|")
@@ -348,7 +350,7 @@ class Body(Reader):
         return UNIT
 
     def arguments(self, end):
-        types = []
+        types: list = []
         while self.take(end) is None:
             types.append(self.expression())
             self.take(",") or self.take(";")
@@ -407,7 +409,7 @@ class Body(Reader):
 
     def literal(self, found):
         made, fields = self.program.fields_of(found)
-        subst = {}
+        subst: dict = {}
         self.want("{")
         while self.take("}") is None:
             if self.take(".."):
@@ -423,7 +425,7 @@ class Body(Reader):
         self.want("!")
         end = self.ends[self.at]
         self.at += 1
-        types = []
+        types: list = []
         while self.at < end and name != "prove":
             if name == "matches" and types:
                 outer = dict(self.variables)
@@ -510,7 +512,7 @@ class Body(Reader):
         if of is None:
             return None
         if of[1] == "BTreeMap":
-            return self.of_map(*of[2], name)
+            return self.of_map(of[2][0], of[2][1], name)
         # An iterator of the crates is taken for a list.
         whole = ("list", item) if item and of[0] == "type" and isinstance(of[1], Type) else of
         first = types[0] if types else None

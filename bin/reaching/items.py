@@ -187,7 +187,7 @@ class Reader:
 
     def generics(self):
         """Returns the bounds of the type parameters by their names."""
-        found = {}
+        found: dict = {}
         if self.take("<") is None:
             return found
         while self.take(">") is None:
@@ -324,7 +324,7 @@ class Reader:
 
     def fields(self):
         """Reads the fields of a struct or a variant."""
-        found = {}
+        found: dict = {}
         if self.peek() == "(":
             end = self.ends[self.at]
             self.at += 1
@@ -362,7 +362,7 @@ class Reader:
         self.clauses()
         end = self.ends[self.at]
         self.at += 1
-        made = {}
+        made: dict = {}
         self.items(end, None, made)
         self.at = end + 1
         self.impls.append((self.module, generics, trait, of, made))

@@ -22,7 +22,9 @@ class Program:
     def __init__(self, modules, below):
         self.modules, self.below = modules, below
         # The functions reached, those of them still to be read, the types that they name, and the methods of traits among them.
-        self.reached, self.waiting, self.named, self.asked = set(), [], set(), set()
+        self.reached, self.waiting = set(), []
+        self.named: set = set()
+        self.asked: set = set()
         # The calls of methods on what has no known type.
         self.unknown = []
         impls = []
@@ -199,7 +201,7 @@ class Program:
 
     def made_of(self, made, variant, types):
         """Returns the type of a struct or a variant that is made of fields of these types."""
-        subst = {}
+        subst: dict = {}
         for written, of in zip((made.variants[variant] if variant else made.fields).values(), types):
             self.unify(self.field(made, written), of, subst)
         return ("type", made, tuple(subst.get(it) for it in made.generics))
@@ -224,7 +226,7 @@ class Program:
 
     def subst_of(self, function, of):
         """Returns the types in the place of the parameters of a function's impl, if it is called on a value of this type."""
-        subst = {}
+        subst: dict = {}
         if function.header is not None:
             self.unify(function.header, of, subst)
         elif of is not None:

@@ -4,10 +4,12 @@ import shutil
 import tempfile
 import time
 
-from peering.far import OLDER_VERSION, hello, kept_open, status_of
-from peering.members import HAProxy, NodeMember
-from peering.node import fields
-from peering.trial import Skipped, check, equal, require, wait
+from harness.far import kept_open, status_of
+from harness.haproxy import HAProxy, installed
+from harness.members import NodeMember
+from harness.node import fields
+from harness.trial import Skipped, check, equal, require, wait
+from harness.wire import OLDER_VERSION, hello
 
 
 class Pair:
@@ -15,16 +17,14 @@ class Pair:
     each with the one that stands there instead."""
 
     def __init__(self, trial, to_node=True, to_balancer=True, changes=()):
-        binary = shutil.which('haproxy') or shutil.which('haproxy', path='/usr/sbin:/usr/local/sbin')
+        binary = installed()
         if binary is None:
             raise Skipped('no haproxy')
-        folder = tempfile.mkdtemp(prefix='staying.')
+        self.folder = tempfile.mkdtemp(prefix='staying.')
         trial.closes(self)
-        self.folder = folder
-        ports = trial.ports
-        self.balancer = trial.closes(HAProxy('h', folder, ports.next(), ports, binary))
-        self.node = trial.closes(NodeMember('n', folder, ports.next(), ports, trial.program))
-        nowhere = ports.next()
+        self.balancer = trial.closes(HAProxy('h', self.folder, trial.ports, binary))
+        self.node = trial.closes(NodeMember('n', self.folder, trial))
+        nowhere = trial.ports.next()
         self.known = (('h', self.balancer.port), ('n', self.node.port if to_node else nowhere))
         self.configure(changes)
         self.node.configure((('h', self.balancer.port if to_balancer else nowhere), ('n', self.node.port)))

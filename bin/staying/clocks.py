@@ -13,17 +13,16 @@ import tempfile
 import threading
 import time
 
-from fuzzing.messages import acknowledgement
-from peering.far import CONFIRMED, FINISHED, HEARTBEAT, PARTIAL, REQUEST, Manners, connected, hello, kept_open, status_of
-from peering.lessons import definition, table, update
-from peering.node import T1, Admin, Node
-from peering.trial import Skipped, check, equal, require, wait
+from harness.far import Manners, connected, kept_open, status_of
+from harness.node import T1, Admin
+from harness.trial import Skipped, check, equal, require, wait
+from harness.wire import CONFIRMED, FINISHED, HEARTBEAT, PARTIAL, REQUEST, acknowledgement, definition, hello, table, update
 from staying.logs import refused
 from staying.measures import lag_of, lags
-from staying.ports import Folder, Metered, Wire
+from staying.ports import Folder, Metered
 from staying.requests import answer_to
 from staying.resyncs import long_rows, tracked
-from staying.sessions import KEEPS_QUIET, up_to_date
+from staying.sessions import KEEPS_QUIET, up_to_date, with_b
 
 # Where the clock stands when a node begins, in ms: so that its own start isn't the clock's.
 BEGIN = 70_000
@@ -213,9 +212,7 @@ def clock_of_those_away(trial):
 @check
 def clock_of_resyncs(trial):
     """a peer that asks again is taught 1,000 ms after its last resync began, not a ms sooner"""
-    node = Clocked(trial, tables=(T1,)).start()
-    far = connected(trial, node)
-    up_to_date(node)
+    node, far = with_b(trial, of=Clocked, tables=(T1,))
     node.at(900)
     far.send(REQUEST)
     far.gets(FINISHED, SOON)
@@ -264,7 +261,7 @@ def slow_readers(trial, path, count):
     """Has clients of a socket ask for more than the system keeps for them, of which each then reads a little again and again."""
     clients = []
     for _ in range(count):
-        clients.append(trial.closes(Wire(path)).peer)
+        clients.append(trial.closes(Admin(path)).peer)
         clients[-1].sendall(b'show rows\n' * 100)
         time.sleep(0.01)
 
@@ -300,9 +297,7 @@ def clock_of_slow_clients(trial):
 @check
 def clock_of_lags(trial):
     """the count of more than 32,000 rows that a peer lacks is shown for 5,000 ms, not a ms longer, and one of fewer is always new"""
-    node = Clocked(trial, tables=(T1, 'table 2 t2 integer 4 0 gpc0')).start()
-    far = connected(trial, node)
-    up_to_date(node)
+    node, far = with_b(trial, of=Clocked, tables=(T1, 'table 2 t2 integer 4 0 gpc0'))
     node.at(500)
     for name in ('t1', 't2'):
         node.ask('track %s 0 add gpc0 1' % name)

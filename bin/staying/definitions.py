@@ -3,11 +3,10 @@
 import re
 import time
 
-from fuzzing.messages import DEFINITION, TABLE_CLASS, encoded, message
-from peering.far import FINISHED, REQUEST, Manners, connected
-from peering.lessons import definition, table, update
-from peering.node import Node, fields
-from peering.trial import check, equal, require, wait
+from harness.far import Manners, connected
+from harness.node import Node, fields
+from harness.trial import check, equal, require, wait
+from harness.wire import DEFINITION, FINISHED, REQUEST, TABLE_CLASS, definition, encoded, message, table, update
 from staying.balancers import Pair
 
 TABLES = ('table 1 kinds integer 4 0 gpc0', 'table 2 lengths string 33 0 gpc0', 'table 3 stores integer 4 0 gpc0',
@@ -84,7 +83,7 @@ def definitions_differ(trial):
     mismatched(node, {name: what for name, (what, _, _) in SIDES.items()})
     wait(lambda: node.ask('show rows') == ['row 6 - 7 1'], 3, 'only the row of the table that is alike', lambda: node.ask('show rows'))
     far.gets_ack(ALIKE.id, 1)
-    equal([pair for pair in far.acks() if pair[0] != ALIKE.id], [], 'acknowledgements of tables that differ')
+    equal([pair for pair in far.acks if pair[0] != ALIKE.id], [], 'acknowledgements of tables that differ')
 
 
 @check
@@ -215,28 +214,36 @@ def table_line(node, name):
     return next(fields(line) for line in node.ask('show peers') if line.startswith('table h %s ' % name))
 
 
-@check
-def haproxy_that_differs(trial):
-    """a HAProxy takes rows of a table with another period and gives none; with another length, none go either way; both are said and shown"""
-    pair = Pair(trial, changes=(('http_req_rate(10s)', 'http_req_rate(20s)'), ('string len 32', 'string len 40')))
+def differs_from(pair, keys, what, other, mismatches, sides):
+    """Checks what becomes of rows of two tables that differ: those of the first go to the HAProxy, and none of the second go either way.
+    `keys` are one of the second table at each side, `what` and `other` say what differs."""
     node, balancer = pair.node, pair.balancer
     pair.connected()
     for _ in range(3):
         wait(lambda: node.count(1), 7, 'the node counts', pause=0.2)
         wait(lambda: balancer.count(2), 7, 'the HAProxy counts', pause=0.2)
-    require(node.stick('k1') and balancer.stick('k2'), 'both choose a server')
-    wait(lambda: balancer.rows().get(('ints', 1)) == 3, 5, 'the HAProxy takes a row with another period', balancer.rows)
-    wait(lambda: table_line(node, 'names')['left'] == 'yes', 6, 'the table with another length is left', lambda: node.ask('show peers'))
-    equal(sorted(node.rows()), [('ints', 1), ('names', 'k1')], 'the rows of the node')
-    equal(sorted(balancer.rows()), [('ints', 1), ('ints', 2), ('names', 'k2')], 'the rows of the HAProxy')
+    require(node.stick(keys[0]) and balancer.stick(keys[1]), 'both choose a server')
+    wait(lambda: balancer.rows().get(('ints', 1)) == 3, 5, 'the HAProxy takes a row with ' + what, balancer.rows)
+    wait(lambda: table_line(node, 'names')['left'] == 'yes', 6, 'the table with another %s is left' % other, lambda: node.ask('show peers'))
+    equal(sorted(node.rows()), [('ints', 1), ('names', keys[0])], 'the rows of the node')
+    equal(sorted(balancer.rows()), [('ints', 1), ('ints', 2), ('names', keys[1])], 'the rows of the HAProxy')
     ints = table_line(node, 'mesh/ints')
-    require(ints['taught'] == ints['acknowledged'] != '0', 'the rows with another period are acknowledged', ints)
-    equal((ints['mismatch'], ints['left'], table_line(node, 'names')['mismatch']), ('period', 'no', 'length'), 'what differs')
+    require(ints['taught'] == ints['acknowledged'] != '0', 'the rows with %s are acknowledged' % what, ints)
+    equal((ints['mismatch'], ints['left'], table_line(node, 'names')['mismatch']), (mismatches[0], 'no', mismatches[1]), 'what differs')
     equal(pair.line()['mismatched'], '2', 'how many differ')
     said = [line for _, line in node.said if ' event=mismatch ' in line]
-    for sides in (('http_req_rate(20s)', 'http_req_rate(10s)'), ('type string len 40 (key length 41)', 'type string len 32 (key length 33)')):
-        require(any(sides[0] in line and sides[1] in line.split(sides[0], 1)[1] for line in said), 'the log has both sides', sides, said)
+    for theirs, ours in sides:
+        require(any(theirs in line and ours in line.split(theirs, 1)[1] for line in said), 'the log has both sides', theirs, ours, said)
     equal(len(said), 2, 'lines about tables that differ')
+
+
+@check
+def haproxy_that_differs(trial):
+    """a HAProxy takes rows of a table with another period and gives none; with another length, none go either way; both are said and shown"""
+    pair = Pair(trial, changes=(('http_req_rate(10s)', 'http_req_rate(20s)'), ('string len 32', 'string len 40')))
+    node, balancer = pair.node, pair.balancer
+    differs_from(pair, ('k1', 'k2'), 'another period', 'length', ('period', 'length'), (
+        ('http_req_rate(20s)', 'http_req_rate(10s)'), ('type string len 40 (key length 41)', 'type string len 32 (key length 33)')))
     time.sleep(11)
     equal([line for _, line in node.said if 'event=undefined' in line or 'event=unshared' in line], [], 'tables that only one side has')
 
@@ -253,20 +260,6 @@ def haproxy_that_differs(trial):
 def haproxy_that_differs_otherwise(trial):
     """a HAProxy takes the values of the data types that it has, and gives none; with another kind of keys, no row goes either way"""
     pair = Pair(trial, changes=(('store gpc0,http_req_rate(10s)', 'store gpc0'), ('stick-table type string len 32', 'stick-table type integer')))
-    node, balancer = pair.node, pair.balancer
-    pair.connected()
-    for _ in range(3):
-        wait(lambda: node.count(1), 7, 'the node counts', pause=0.2)
-        wait(lambda: balancer.count(2), 7, 'the HAProxy counts', pause=0.2)
-    require(node.stick('3') and balancer.stick('4'), 'both choose a server')
-    wait(lambda: balancer.rows().get(('ints', 1)) == 3, 5, 'the HAProxy takes what it stores of a row with a further data type', balancer.rows)
-    wait(lambda: table_line(node, 'names')['left'] == 'yes', 6, 'the table with another kind is left', lambda: node.ask('show peers'))
-    equal(sorted(node.rows()), [('ints', 1), ('names', '3')], 'the rows of the node')
-    equal(sorted(balancer.rows()), [('ints', 1), ('ints', 2), ('names', '4')], 'the rows of the HAProxy')
-    ints = table_line(node, 'mesh/ints')
-    require(ints['taught'] == ints['acknowledged'] != '0', 'the rows with a further data type are acknowledged', ints)
-    equal((ints['mismatch'], ints['left'], table_line(node, 'names')['mismatch']), ('types', 'no', 'kind'), 'what differs')
-    said = [line for _, line in node.said if ' event=mismatch ' in line]
-    for sides in (('store gpc0', 'store gpc0,http_req_rate(10s)'), ('type integer', 'type string')):
-        require(any(sides[0] in line and sides[1] in line.split(sides[0], 1)[1] for line in said), 'the log has both sides', sides, said)
-    equal((balancer.faults()['proto_err'], pair.line()['faults']), (0, '0'), 'faults')
+    differs_from(pair, ('3', '4'), 'a further data type', 'kind', ('types', 'kind'), (
+        ('store gpc0', 'store gpc0,http_req_rate(10s)'), ('type integer', 'type string')))
+    equal((pair.balancer.faults()['proto_err'], pair.line()['faults']), (0, '0'), 'faults')

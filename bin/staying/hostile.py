@@ -5,16 +5,15 @@ import random
 import threading
 import time
 
-from fuzzing.messages import DEFINITION, TABLE_CLASS, acknowledgement, encoded, framed, framed_length, message
-from fuzzing.tables import KINDS
 from fuzzing.streams import OVER
-from peering.far import (CONFIRMED, HEARTBEAT, OLDER_VERSION, PROTOCOL_ERROR, REQUEST, SIZE_LIMIT, Door, Manners, connected, hello,
-                         is_closed, kept_open, status_of)
-from peering.lessons import Lessons, definition, switch, table, update
-from peering.node import T1, Node, address
-from peering.trial import between, check, equal, require, wait
+from harness.far import Door, Manners, connected, is_closed, kept_open, speaks, status_of
+from harness.node import T1, Node, address
+from harness.tables import KINDS
+from harness.trial import between, check, equal, require, wait
+from harness.wire import (CONFIRMED, DEFINITION, HEARTBEAT, OLDER_VERSION, PROTOCOL_ERROR, REQUEST, SIZE_LIMIT, TABLE_CLASS,
+                          Heard, acknowledgement, definition, encoded, hello, message, switch, table, update)
 from staying.resyncs import long_rows
-from staying.sessions import T1_THERE, beats, node_of_b, up_to_date
+from staying.sessions import T1_THERE, beats, node_of_b, up_to_date, with_b
 
 ST = 'table 2 st string 33 0 server_key'
 ST_THERE = table(78, 'st', 'string', types=('server_key',))
@@ -73,7 +72,7 @@ def other_definitions(trial):
     other = table(92, 'other', types=('gpc0', 'gpc1'))
     far.send(definition(other) + update(other, 1, 7, (1, 2)) + update(other, None, 8, (1, 2)))
     still_learns(node, far, 2)
-    equal(far.acks(), [(77, 1), (77, 2)], 'acknowledgements')
+    equal(far.acks, [(77, 1), (77, 2)], 'acknowledgements')
     wait(lambda: node.metric('digbaro_passed_over_total{why="definition"}') >= 1, 2, 'it is counted', node.metrics)
 
 
@@ -119,9 +118,7 @@ def other_messages(trial):
 @check
 def byte_by_byte(trial):
     """messages that come byte by byte are read as if they came at once"""
-    node = node_of_b(trial)
-    far = connected(trial, node)
-    up_to_date(node)
+    node, far = with_b(trial)
     for byte in definition(T1_THERE) + update(T1_THERE, 5, 7, (300,)):
         far.send(bytes((byte,)))
         time.sleep(0.005)
@@ -187,9 +184,7 @@ def too_many_definitions(trial):
 @check
 def garbage(trial):
     """garbage behind a hello ends its session at the most: another peer's goes on"""
-    node = node_of_b(trial, peers=('b', 'c'))
-    b = connected(trial, node)
-    up_to_date(node)
+    node, b = with_b(trial, peers=('b', 'c'))
     for seed in range(25):
         chances = random.Random(seed)
         c = connected(trial, node, 'c')
@@ -203,8 +198,7 @@ def garbage(trial):
 
 def answer_to(trial, node, data, seconds=3):
     """Returns the status with which a node answers some bytes, and checks that it closes the connection then."""
-    peer = trial.closes(kept_open((node.host, node.port)))
-    peer.sendall(data)
+    peer = speaks(trial, node, data)
     status = status_of(peer, seconds)
     if status != b'200\n':
         require(is_closed(peer, 2), 'the connection is open after the status', status)
@@ -258,11 +252,9 @@ def cut_hellos(trial):
     node = node_of_b(trial)
     whole = hello('n', 'b')
     for length in range(0, len(whole), 3):
-        peer = kept_open((node.host, node.port))
-        peer.sendall(whole[:length])
+        peer = speaks(trial, node, whole[:length])
         peer.close()
-    peer = trial.closes(kept_open((node.host, node.port)))
-    peer.sendall(whole[:10])
+    peer = speaks(trial, node, whole[:10])
     begun = time.monotonic()
     require(is_closed(peer, 8), 'a cut hello is open after 8 s')
     between(4.5, time.monotonic() - begun, 6.5, 'seconds until it is closed')
@@ -292,8 +284,7 @@ def reads_slowly(trial):
     c = connected(trial, node, 'c')
     up_to_date(node)
     long_rows(node, 600)
-    peer = trial.closes(kept_open((node.host, node.port), buffer=2048))
-    peer.sendall(hello('n', 'b') + REQUEST)
+    peer = speaks(trial, node, hello('n', 'b') + REQUEST, 2048)
     equal(status_of(peer), b'200\n', 'the status')
     wait(lambda: node.peer('b')['state'] == 'teaching', 2, 'the node teaches', lambda: node.peer('b'))
     begun, read = time.monotonic(), 0
@@ -312,9 +303,7 @@ def reads_slowly(trial):
 @check
 def leaves_under_a_flood(trial):
     """a table that a peer doesn't acknowledge is left after 2 s, though the peer sends rows of another one without pause"""
-    node = node_of_b(trial, tables=(T1, T1.replace('1 t1', '2 t2')))
-    far = connected(trial, node, manners=Manners(passed=('t2',)))
-    up_to_date(node)
+    node, far = with_b(trial, manners=Manners(passed=('t2',)), tables=(T1, T1.replace('1 t1', '2 t2')))
     time.sleep(1)
     node.ask('track t2 1 add gpc0 1')
     far.send(definition(T1_THERE))
@@ -336,8 +325,7 @@ def deaf(trial):
     c = connected(trial, node, 'c')
     up_to_date(node)
     long_rows(node, 600)
-    peer = trial.closes(kept_open((node.host, node.port), buffer=2048))
-    peer.sendall(hello('n', 'b') + REQUEST)
+    peer = speaks(trial, node, hello('n', 'b') + REQUEST, 2048)
     equal(status_of(peer), b'200\n', 'the status')
     begun = time.monotonic()
     place = 0
@@ -411,30 +399,27 @@ def drains(peer, rate, is_over, take):
         take(data)
 
 
-class Drain:
+class Drain(Heard):
     """A peer that reads lessons slowly, and acknowledges each of the table `long` as soon as it begins to come."""
 
     def __init__(self, trial, node, rate):
-        self.peer = trial.closes(kept_open((node.host, node.port), buffer=1 << 16))
-        self.peer.sendall(hello('n', 'b') + REQUEST)
+        super().__init__()
+        self.peer = speaks(trial, node, hello('n', 'b') + REQUEST, 1 << 16)
         equal(status_of(self.peer), b'200\n', 'the status')
-        self.left, self.updates, self.rows, self.over = b'', Lessons(), 0, False
+        self.rows, self.over = 0, False
         threading.Thread(target=self.play, args=(rate,), daemon=True).start()
 
     def play(self, rate):
         with contextlib.suppress(OSError):
-            drains(self.peer, rate, lambda: self.over, self.take)
+            drains(self.peer, rate, lambda: self.over, self.hear)
         self.over = True
 
-    def take(self, data):
-        data = self.left + data
-        for _, class_byte, type_byte, content in framed(data):
-            update = self.updates.take(type_byte, content) if class_byte == TABLE_CLASS else None
-            if update is not None and update.table.name == b'long':
-                if self.rows % 512 == 0:
-                    self.peer.sendall(acknowledgement(update.id, update.number + 511))
-                self.rows += 1
-        self.left = data[framed_length(data):]
+    def look_at(self, class_byte, type_byte, data):
+        update = self.lessons.take(type_byte, data) if class_byte == TABLE_CLASS else None
+        if update is not None and update.table.name == b'long':
+            if self.rows % 512 == 0:
+                self.peer.sendall(acknowledgement(update.id, update.number + 511))
+            self.rows += 1
 
 
 @check

@@ -6,11 +6,12 @@ import subprocess
 import sys
 import time
 
-from peering.far import Door, Far, connected, hello, kept_open, status_of
-from peering.node import T1, Node, address
-from peering.trial import PATIENCE, Skipped, between, check, equal, require, wait
+from harness.far import Door, Far, speaks, status_of
+from harness.node import T1, address
+from harness.trial import PATIENCE, Skipped, between, check, equal, require, wait
+from harness.wire import hello
 from staying.resyncs import T2
-from staying.sessions import up_to_date
+from staying.sessions import with_b
 
 REFUSING = os.path.join(os.path.dirname(os.path.abspath(__file__)), '../checks/refusing.py')
 SEVEN = (7).to_bytes(4, 'big')
@@ -56,8 +57,7 @@ def at_rest(node):
 
 def attempted(trial, node):
     """Returns a far side that connects as b, if the node takes its hello."""
-    peer = kept_open((node.host, node.port))
-    peer.sendall(hello(node.name, 'b'))
+    peer = speaks(trial, node, hello(node.name, 'b'))
     if status_of(peer) == b'200\n':
         return trial.closes(Far(peer))
     peer.close()
@@ -80,9 +80,7 @@ def served(trial, node):
 
 def with_a_row(trial, **other):
     """Returns a node that has taught its peer b a row of both tables, and the peer."""
-    node = Node(trial, tables=(T1, T2), **other).start()
-    far = connected(trial, node)
-    up_to_date(node)
+    node, far = with_b(trial, tables=(T1, T2), **other)
     for name in ('t1', 't2'):
         node.ask('track %s 7 add gpc0 1' % name)
         far.gets_row(name, 7, (1,))

@@ -5,16 +5,15 @@ import hashlib
 import os
 import re
 import socket
-import subprocess
 import time
 from datetime import datetime, timezone
 
-from peering.far import FINISHED, PROTOCOL_ERROR, REQUEST, Door, Manners, connected, hello, is_closed, kept_open, status_of
-from peering.lessons import definition, switch, update
-from peering.node import T1, Node, address
-from peering.trial import Skipped, between, check, equal, matches, require, wait
+from harness.far import Door, Manners, connected, is_closed, speaks, status_of
+from harness.node import T1, Node, address
+from harness.trial import Skipped, between, check, equal, matches, require, wait
+from harness.wire import FINISHED, PROTOCOL_ERROR, REQUEST, definition, hello, switch, update
 from staying.ports import Folder
-from staying.sessions import KEEPS_QUIET, T1_THERE, node_of_b, up_to_date
+from staying.sessions import KEEPS_QUIET, T1_THERE, node_of_b, up_to_date, with_b
 
 
 def events(node, *left_out):
@@ -24,8 +23,7 @@ def events(node, *left_out):
 
 def refused(node, to, name):
     """Returns the status that answers a hello."""
-    peer = node.trial.closes(kept_open((node.host, node.port)))
-    peer.sendall(hello(to, name))
+    peer = speaks(node.trial, node, hello(to, name))
     return status_of(peer)
 
 
@@ -53,7 +51,8 @@ def log_of_warnings(trial):
     tables = tuple('table %d mesh/t%d integer 4 0 gpc0' % (at, at) for at in range(1, 8))
     for more, count in ((('section mesh',), 5), ((), 5), ((), 1)):
         node = Node(trial, peers=(), tables=tables if count > 1 else (T1,), more=more).start()
-        checked = subprocess.run([trial.program, 'run', '--check'], input=node.configuration.encode(), capture_output=True, timeout=10, check=True)
+        checked = trial.run('run', '--check', text=node.configuration.encode())
+        equal(checked.returncode, 0, 'the status of --check')
         wanted = [line.replace(': warning: ', ': ', 1) for line in checked.stderr.decode('ascii').splitlines()]
         said = node.logs('configuration-warning', count)
         equal([(line.level, line.keys, line.sentence) for line in said], [('warn', {}, line) for line in wanted[:count]], 'lines about warnings')
@@ -94,9 +93,7 @@ def log(trial):
 @check
 def log_of_resyncs_of_nothing(trial):
     """a resync in which there is nothing to teach, and which is over as soon as it begins, has a line too, each time"""
-    node = node_of_b(trial, tables=(T1,))
-    far = connected(trial, node)
-    up_to_date(node)
+    node, far = with_b(trial, tables=(T1,))
     for times in (1, 2, 3):
         far.send(REQUEST)
         far.gets(FINISHED, 3, times)
@@ -109,8 +106,7 @@ def log_of_a_new_process(trial):
     """a session says whether the peer's pid is another one than before, from its second hello on"""
     node = node_of_b(trial)
     for times, pid in enumerate((7, 8, 8), 1):
-        peer = trial.closes(kept_open((node.host, node.port)))
-        peer.sendall(b'HAProxyS 2.1\nn\nb %d 1\n' % pid)
+        peer = speaks(trial, node, b'HAProxyS 2.1\nn\nb %d 1\n' % pid)
         equal(status_of(peer), b'200\n', 'the status')
         node.logs('connected', times, peer='b')
         peer.close()
@@ -123,9 +119,7 @@ def log_of_a_new_process(trial):
 @check
 def log_of_a_table_left(trial):
     """the log says once a connection that a table was left, by its name"""
-    node = node_of_b(trial, tables=(T1,))
-    far = connected(trial, node, manners=Manners(acks='none'))
-    up_to_date(node)
+    node, far = with_b(trial, manners=Manners(acks='none'), tables=(T1,))
     node.ask('track t1 7 add gpc0 1')
     wait(lambda: node.shared('b', 't1')['left'] == 'yes', 5, 'the table is left')
     node.ask('track t1 8 add gpc0 1')
@@ -290,8 +284,7 @@ def log_of_an_end(trial):
 def log_of_a_fault_behind_a_hello(trial):
     """a session whose peer breaks the protocol right behind its hello begins in the log before the fault"""
     node = node_of_b(trial)
-    peer = trial.closes(kept_open((node.host, node.port)))
-    peer.sendall(hello('n', 'b') + switch(9))
+    speaks(trial, node, hello('n', 'b') + switch(9))
     node.logs('ended', peer='b', end='fault')
     equal(events(node, 'start', 'listening'), ['connected', 'fault', 'ended'], 'events')
 
@@ -303,8 +296,7 @@ def log_of_a_hello_refused(trial):
     for _ in range(2):
         equal([refused(node, *names) for names in (('n', 'stranger'), ('n', 'str:anger'), ('other', 'b'), ('n', 'x\x01'))],
               [b'504\n', b'504\n', b'503\n', b'504\n'], 'the statuses')
-    peer = trial.closes(kept_open((node.host, node.port)))
-    peer.sendall(b'GET / HTTP/1.1\n\n\n')
+    peer = speaks(trial, node, b'GET / HTTP/1.1\n\n\n')
     equal(status_of(peer), b'501\n', 'the status of what is no hello')
     node.logs('hello-refused', status=501)
     said = node.logged('hello-refused')
@@ -327,8 +319,7 @@ def log_of_a_hello_of_another_version(trial):
     """a hello of a version that the node doesn't speak is said with it, once, in hexadecimal if it would read as more"""
     node = node_of_b(trial)
     for version, wanted in ((b'2.2', '2.2'), (b'2: x', '0x323A2078')):
-        peer = trial.closes(kept_open((node.host, node.port)))
-        peer.sendall(hello('n', 's' + wanted, b'HAProxyS ' + version))
+        peer = speaks(trial, node, hello('n', 's' + wanted, b'HAProxyS ' + version))
         equal(status_of(peer), b'502\n', 'the status')
         said, = node.logs('hello-refused', status=502, peer='s' + wanted)
         equal(said.keys['protocol'], wanted, 'the version')
@@ -355,15 +346,13 @@ def log_of_a_hello_at_another_port(trial):
     node = node_of_b(trial, more=('metrics ' + address(metrics),))
     for name, port in (('admin', node.admin_port), ('metrics', metrics)):
         for _ in range(2):
-            peer = trial.closes(kept_open((node.host, port)))
-            peer.sendall(hello('n', 'b'))
+            peer = speaks(trial, node, hello('n', 'b'), port=port)
             require(is_closed(peer, 5), 'the connection is closed')
         said, = node.logs('wrong-port', port=name, peer='b')
         equal((said.level, '"listen %s"' % address(node.port) in said.sentence), ('warn', True), 'the line: ' + said.sentence)
         matches(r'127\.0\.0\.1:[0-9]+', said.keys['address'], 'the address')
     for data in (hello('n', 'x'), hello('n', 'z').split(b'\n')[0] + b'\n'):
-        peer = trial.closes(kept_open((node.host, node.admin_port)))
-        peer.sendall(data)
+        peer = speaks(trial, node, data, port=node.admin_port)
         require(is_closed(peer, 5), 'the connection is closed')
     time.sleep(0.3)
     equal([said.keys.get('peer', '-') for said in node.logged('wrong-port')], ['b', 'b', 'x', '-'], 'the peers of the lines')
@@ -429,11 +418,6 @@ def full_pipe(trial):
             os.write(pipe, b'x' * 4096)
     except BlockingIOError:
         return path, pipe
-
-
-def read_end(path):
-    """Returns the end of a pipe at which it can be read, without waiting for what isn't there."""
-    return os.fdopen(os.open(path, os.O_RDONLY | os.O_NONBLOCK), 'rb', 0)
 
 
 def written_to(trial, target, **other):

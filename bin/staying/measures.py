@@ -6,14 +6,13 @@ import subprocess
 import tempfile
 import time
 
-from fuzzing.messages import acknowledgement
-from peering.far import CONFIRMED, FINISHED, REQUEST, Manners, connected, hello, kept_open, status_of
-from peering.lessons import definition, update
-from peering.node import T1, Node
-from peering.trial import Skipped, between, check, equal, matches, require, wait
+from harness.far import Manners, connected, speaks, status_of
+from harness.node import T1, Node
+from harness.trial import Skipped, between, check, equal, matches, require, wait
+from harness.wire import CONFIRMED, FINISHED, REQUEST, acknowledgement, definition, hello, update
 from staying.logs import refused
 from staying.resyncs import tracked
-from staying.sessions import T1_THERE, node_of_b, node_with_door, up_to_date
+from staying.sessions import T1_THERE, node_of_b, node_with_door, up_to_date, with_b
 
 TWO = (T1, 'table 2 t2 integer 4 0 gpc0')
 MUTE = Manners(acks='none')
@@ -90,9 +89,7 @@ def lag_of_rows_learned(trial):
 @check
 def lag_of_many_rows(trial):
     """rows are counted beside a peer that acknowledges none, while others are served at once"""
-    node = node_of_b(trial, peers=('b', 'c'), tables=(T1,))
-    far = connected(trial, node)
-    up_to_date(node)
+    node, far = with_b(trial, peers=('b', 'c'), tables=(T1,))
     node.ask('track t1 0 add gpc0 1')
     wait(lambda: node.shared('b', 't1')['acknowledged'] == '1', 2, 'the first row is acknowledged')
     far.manners = MUTE
@@ -143,9 +140,7 @@ def lag_of_a_table_left(trial):
 @check
 def lag_of_rows_that_ended(trial):
     """a row that has ended is no lag"""
-    node = node_of_b(trial, tables=('table 1 t1 integer 4 1000 gpc0',))
-    far = connected(trial, node)
-    up_to_date(node)
+    node, far = with_b(trial, tables=('table 1 t1 integer 4 1000 gpc0',))
     node.ask('track t1 7 add gpc0 1')
     wait(lambda: node.shared('b', 't1')['acknowledged'] == '1', 2, 'a row is acknowledged')
     far.manners = MUTE
@@ -178,8 +173,7 @@ def hellos_refused(trial):
     node = node_of_b(trial)
     for text, status in ((b'HAProxyS 2.1\nn\nx 1 1\n', 504), (b'HAProxyS 2.1\nn\nx 1 1\n', 504), (b'HAProxyS 2.1\nx\nb 1 1\n', 503),
                          (b'HAProxyS 3.0\nn\nb 1 1\n', 502), (b'x' * 2000, 501)):
-        peer = kept_open((node.host, node.port))
-        peer.sendall(text)
+        peer = speaks(trial, node, text)
         equal(status_of(peer), b'%d\n' % status, 'the answer to %r' % text[:20])
         peer.close()
     for status, count in ((501, 1), (502, 1), (503, 1), (504, 2)):
@@ -208,8 +202,7 @@ def last_error_of_an_end(trial):
     door, node = node_with_door(trial)
     far = door.far()
     up_to_date(node)
-    refuse = trial.closes(kept_open((node.host, node.port)))
-    refuse.sendall(hello('x', 'b'))
+    refuse = speaks(trial, node, hello('x', 'b'))
     equal(status_of(refuse), b'503\n', 'the status for a hello to another name')
     node.shows('digbaro_hellos_refused_total{status="503"}', 1)
     door.status = b''
@@ -218,8 +211,7 @@ def last_error_of_an_end(trial):
     door.kept[0].close()
     node.logs('unreachable', peer='b')
     equal(node.peer('b')['last_error'], 'unreachable', 'why there is no session')
-    again = trial.closes(kept_open((node.host, node.port)))
-    again.sendall(hello('x', 'b'))
+    again = speaks(trial, node, hello('x', 'b'))
     equal(status_of(again), b'503\n', 'the status for a further one')
     wait(lambda: node.peer('b')['last_error'] == 'hello-refused-503', 2, 'why there is no session by then', lambda: node.peer('b'))
 

@@ -1,17 +1,14 @@
 """What a node that stays takes of memory, and how level that is. A program that is built with a sanitizer keeps what is freed, so these
 checks are skipped with it."""
 
-import os
 import random
 import threading
 
-from peering.node import Node, address
-from peering.trial import between, check, require, wait
+from harness.node import AS_THE_UNIT, Node, mesh
+from harness.trial import between, check, require, wait
 from staying.meshes import connected_all
 
 MEGABYTE = 1_000_000
-# The environment that digbaro.service gives the node.
-AS_THE_UNIT = {**os.environ, 'MALLOC_ARENA_MAX': '2'}
 
 
 def megabytes(node):
@@ -63,17 +60,6 @@ TURNS = 20
 LOADS = 4
 
 
-def pair(trial):
-    """Returns two nodes that know each other, and keep memory as the unit has it."""
-    ports = {name: trial.ports.next() for name in ('n1', 'n2')}
-    nodes = [Node(trial, name=name, port=ports[name], tables=TABLES, peers=['%s %s' % (other, address(ports[other])) for other in ports if other != name])
-             for name in ports]
-    for node in nodes:
-        node.environment = AS_THE_UNIT
-        node.start()
-    return nodes
-
-
 def some_changes(chances, keys):
     """Returns changes of both rows of each key, in any order."""
     changes = []
@@ -101,7 +87,7 @@ def loads(node, client, keys, failed):
 
 def loaded(nodes, clients):
     """Has two clients load each of the nodes, and returns the memory of each once all is acknowledged."""
-    failed = []
+    failed: list[Exception] = []
     threads = [threading.Thread(target=loads, args=(node, client, range(place * KEYS, (place + 1) * KEYS), failed))
                for place, (node, client) in enumerate(zip(nodes * 2, clients))]
     for thread in threads:
@@ -118,7 +104,7 @@ def loaded(nodes, clients):
 def soak(trial):
     """two nodes of which 20,000 rows are changed take at most 5 % more memory after one load than after the load before, by the fourth at the latest"""
     trial.measures_memory()
-    nodes = pair(trial)
+    nodes = mesh(trial, ('n1', 'n2'), TABLES, AS_THE_UNIT)
     connected_all(nodes)
     for node in nodes * 200:  # So that each of the threads that answer clients has had its first page.
         node.get('/metrics')

@@ -2,19 +2,22 @@
 
 import time
 
-from peering.node import T1, Node, address, fields
-from peering.trial import PATIENCE, check, equal, require, wait
+from harness.node import T1, fields, mesh
+from harness.trial import PATIENCE, check, equal, require, wait
 from staying.resyncs import answered
 
 TABLES = (T1, 'table 2 st string 33 600000 gpc0 http_req_rate:60000 server_key')
 KEYS = 100
 
 
-def mesh(trial, names):
-    """Returns nodes that all know each other, started."""
-    ports = {name: trial.ports.next() for name in names}
-    return [Node(trial, name=name, port=ports[name], tables=TABLES,
-                 peers=['%s %s' % (other, address(ports[other])) for other in names if other != name]).start() for name in names]
+def mesh_of(trial, count):
+    """Returns nodes that all know each other, once each has loaded keys of its own and they are at rest."""
+    nodes = mesh(trial, ['n%d' % (place + 1) for place in range(count)], TABLES)
+    connected_all(nodes)
+    for place, node in enumerate(nodes):
+        load(node, place * KEYS)
+    at_rest(nodes, 2 * count * KEYS)
+    return nodes
 
 
 def connected_all(nodes):
@@ -62,11 +65,7 @@ def lives(node):
 @check
 def two_nodes_in_a_mesh(trial):
     """two nodes have the same rows in the end, and come to rest"""
-    nodes = mesh(trial, ('n1', 'n2'))
-    connected_all(nodes)
-    for place, node in enumerate(nodes):
-        load(node, place * KEYS)
-    at_rest(nodes, 4 * KEYS)
+    nodes = mesh_of(trial, 2)
     one, other = [lives(node) for node in nodes]
     require(all(abs(one[key] - other[key]) < 1000 for key in one), 'the rows end at the same time', one, other)
 
@@ -74,11 +73,7 @@ def two_nodes_in_a_mesh(trial):
 @check
 def three_nodes_in_a_mesh(trial):
     """three nodes have the same rows in the end, and come to rest; each has one session with each other"""
-    nodes = mesh(trial, ('n1', 'n2', 'n3'))
-    connected_all(nodes)
-    for place, node in enumerate(nodes):
-        load(node, place * KEYS)
-    at_rest(nodes, 6 * KEYS)
+    nodes = mesh_of(trial, 3)
     for node in nodes:
         before = node.ask('show peers')
         equal(sum(' state=ready ' in line for line in before), 2, 'sessions that stand')
@@ -87,11 +82,7 @@ def three_nodes_in_a_mesh(trial):
 @check
 def killed_and_started_again(trial):
     """a node that is killed and starts again has all rows again, its own too, and what is tracked at once is kept"""
-    nodes = mesh(trial, ('n1', 'n2'))
-    connected_all(nodes)
-    for place, node in enumerate(nodes):
-        load(node, place * KEYS)
-    at_rest(nodes, 4 * KEYS)
+    nodes = mesh_of(trial, 2)
     nodes[0].kill()
     nodes[1].ask('track t1 5000 add gpc0 7')
     nodes[0].again()
@@ -106,11 +97,7 @@ def killed_and_started_again(trial):
 @check
 def two_of_three_killed(trial):
     """two of three nodes that are killed at once and start again learn all rows, and the mesh comes to rest"""
-    nodes = mesh(trial, ('n1', 'n2', 'n3'))
-    connected_all(nodes)
-    for place, node in enumerate(nodes):
-        load(node, place * KEYS)
-    at_rest(nodes, 6 * KEYS)
+    nodes = mesh_of(trial, 3)
     for node in nodes[:2]:
         node.kill()
     for node in nodes[:2]:
@@ -122,7 +109,7 @@ def two_of_three_killed(trial):
 @check
 def stopped_and_started_again(trial):
     """a node that is stopped and starts again has all rows again"""
-    nodes = mesh(trial, ('n1', 'n2'))
+    nodes = mesh(trial, ('n1', 'n2'), TABLES)
     connected_all(nodes)
     load(nodes[0], 0)
     at_rest(nodes, 2 * KEYS)

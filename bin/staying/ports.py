@@ -1,7 +1,6 @@
 """The ports of a node that stays: the one of metrics, the socket at a file, what can't be had, and what becomes of a node whose descriptors
 are at their limit, or that was suspended."""
 
-import collections
 import contextlib
 import os
 import shutil
@@ -13,13 +12,15 @@ import tempfile
 import threading
 import time
 
-from peering.far import REQUEST, Door, Far, Manners, connected, hello, kept_open, status_of
-from peering.node import T1, Admin, Node, address
-from peering.ports import held
-from peering.trial import PATIENCE, Late, Skipped, between, check, equal, matches, require, wait
-from staying.requests import GOOD, PAGES, alone, answer_to, is_page, is_untouched, with_body
+from harness.far import Door, Far, Manners, connected, kept_open, speaks, status_of
+from harness.node import T1, Admin, Node, address
+from harness.ports import held
+from harness.program import processor_seconds
+from harness.trial import PATIENCE, Late, Skipped, between, check, equal, matches, require, wait
+from harness.wire import REQUEST, hello
+from staying.requests import GOOD, PAGES, alone, is_page, is_untouched, with_body
 from staying.resyncs import long_rows
-from staying.sessions import node_of_b, up_to_date
+from staying.sessions import up_to_date
 
 
 class Folder:
@@ -36,16 +37,6 @@ class Folder:
         shutil.rmtree(self.name, ignore_errors=True)
 
 
-class Wire(Admin):
-    """A connection to a node's socket at a file."""
-
-    def __init__(self, path):  # pylint: disable=super-init-not-called
-        self.peer = socket.socket(socket.AF_UNIX)
-        self.peer.settimeout(PATIENCE)
-        self.peer.connect(path)
-        self.whole, self.left = collections.deque(), b''
-
-
 class Metered(Node):
     """A node with a port of metrics."""
 
@@ -59,25 +50,11 @@ class Metered(Node):
 
     def sees(self, *pieces):
         """Returns all that comes from its port of metrics for some pieces of bytes."""
-        visit = self.visit()
-        for place, piece in enumerate(pieces):
-            if place:
-                time.sleep(0.1)
-            visit.send(piece)
-        came = visit.rest()
-        visit.close()
-        return came
+        return self.visit().answer(*pieces)
 
     def page(self, path, method='GET'):
         """Returns what its port of metrics answers to a request for a page."""
         return self.sees('%s %s HTTP/1.1\r\nHost: n\r\n\r\n' % (method, path))
-
-
-def busy(pid):
-    """Returns the processor time of a process, in seconds."""
-    with open('/proc/%d/stat' % pid) as file:
-        words = file.read().rsplit(')', 1)[1].split()
-    return (int(words[11]) + int(words[12])) / os.sysconf('SC_CLK_TCK')
 
 
 # --- The port of metrics
@@ -182,7 +159,7 @@ def metrics_visits(trial):
 def metrics_burst(trial):
     """of clients that come to the port of metrics at once each is answered, told 503, or closed for a later one"""
     node = Metered(trial, peers=(), tables=(T1,)).start()
-    used = busy(node.child.pid)
+    used = processor_seconds(node.child.pid)
     visits = [node.visit() for _ in range(100)]
     time.sleep(1)
     standing = [visit for visit in visits if not visit.peer.setblocking(False) and nothing_came(visit)]
@@ -191,7 +168,7 @@ def metrics_burst(trial):
         if visit not in standing:
             came = visit.rest()
             require(not came or is_page(came, 503, 'one too many') == '', 'what another one gets:', came)
-    between(0, busy(node.child.pid) - used, 2, 'processor time, in s')
+    between(0, processor_seconds(node.child.pid) - used, 2, 'processor time, in s')
     for visit in standing:
         visit.send('GET /ready HTTP/1.1\r\n\r\n')
         is_page(visit.rest(3), 200, 'a request of one that stands')
@@ -278,23 +255,29 @@ def at_file(trial, path, admin=False, **other):
     return Node(trial, peers=(), tables=(T1,), more=('admin unix:' + path,), admin=admin, **other)
 
 
+def started_at(trial, path, **other):
+    """Returns a node that takes requests at a file, once the file is there."""
+    node = at_file(trial, path, **other).start()
+    wait(lambda: os.path.exists(path), PATIENCE, 'the file is there', node.said)
+    return node
+
+
 @check
 def admin_socket(trial):
     """a socket at a file takes requests, is its owner's alone, and is removed at the end"""
     path = Folder(trial).path()
-    node = at_file(trial, path).start()
-    wait(lambda: os.path.exists(path), PATIENCE, 'the file is there', node.said)
+    node = started_at(trial, path)
     found = os.stat(path)
     equal((stat.S_ISSOCK(found.st_mode), stat.S_IMODE(found.st_mode), found.st_uid), (True, 0o600, os.getuid()), 'the file')
-    wire = trial.closes(Wire(path))
+    wire = trial.closes(Admin(path))
     equal(wire.ask('track t1 7 add gpc0 5'), 'reply 1 - 7 5 local', 'a track')
     equal(wire.ask('show rows'), ['row 1 - 7 5'], 'the rows')
-    other = trial.closes(Wire(path))
+    other = trial.closes(Admin(path))
     other.send('GET /ready HTTP/1.1\r\n\r\n')
     is_page(other.rest(), 200, 'a client of HTTP')
     wire.send('nonsense\n')
     equal(wire.rest(), b'refused\n', 'the answer to a line that cannot be read')
-    last = trial.closes(Wire(path))
+    last = trial.closes(Admin(path))
     equal(last.ask('stop'), 'ok', 'the answer to stop')
     equal(node.child.wait(5), 0, 'the status')
     require(not os.path.exists(path), 'the file is there after the end')
@@ -305,7 +288,7 @@ def admin_ports(trial):
     """both the port and the socket take requests, over 32 connections in all"""
     path = Folder(trial).path()
     node = at_file(trial, path, admin=True).start()
-    wires = [trial.closes(Wire(path)) for _ in range(31)]
+    wires = [trial.closes(Admin(path)) for _ in range(31)]
     for wire in wires:
         equal(wire.ask('get t1 7'), 'none', 'an answer')
         time.sleep(0.01)
@@ -332,14 +315,13 @@ def wide_umask(trial):
 def stale_socket(trial):
     """the file of a socket that nobody listens on is replaced"""
     path = Folder(trial).path()
-    node = at_file(trial, path).start()
-    wait(lambda: os.path.exists(path), PATIENCE, 'the file is there', node.said)
+    node = started_at(trial, path)
     node.kill()
     require(os.path.exists(path), 'the file is there after a kill')
     before = os.stat(path).st_mtime_ns
     node.again()
     wait(lambda: os.stat(path).st_mtime_ns != before, PATIENCE, 'the file is another one', node.said)
-    equal(trial.closes(Wire(path)).ask('stop'), 'ok', 'the answer to stop')
+    equal(trial.closes(Admin(path)).ask('stop'), 'ok', 'the answer to stop')
     equal((node.child.wait(5), os.path.exists(path)), (0, False), 'the status, and whether the file is there')
 
 
@@ -348,8 +330,7 @@ def replaced_socket(trial):
     """the file of another socket that has taken the place of the node's isn't removed at the end"""
     folder = Folder(trial)
     path, other = folder.path(), folder.path('other')
-    node = at_file(trial, path, admin=True).start()
-    wait(lambda: os.path.exists(path), PATIENCE, 'the file is there', node.said)
+    node = started_at(trial, path, admin=True)
     with socket.socket(socket.AF_UNIX) as made:
         made.bind(other)
         os.rename(other, path)
@@ -360,7 +341,7 @@ def replaced_socket(trial):
 
 def fails(trial, text, line, status=4):
     """Checks that a node with this configuration ends so, and says why in this line."""
-    run = subprocess.run([trial.program, 'run'], input=text.encode(), capture_output=True, timeout=PATIENCE, check=False)
+    run = trial.run('run', text=text.encode())
     equal((run.returncode, run.stdout), (status, b''), 'the end with %r' % text)
     matches(line, run.stderr.decode(), 'standard error with %r' % text)
 
@@ -392,16 +373,13 @@ def foreign_files(trial):
 def socket_in_use(trial):
     """a socket that somebody listens on stays as it is"""
     path = Folder(trial).path()
-    node = at_file(trial, path).start()
-    wait(lambda: os.path.exists(path), PATIENCE, 'the file is there', node.said)
+    started_at(trial, path)
     before = os.stat(path).st_ino
     fails(trial, with_lines(trial, 'admin unix:' + path), 'admin unix:%s: Address already in use\n' % path)
     equal(os.stat(path).st_ino, before, 'the file')
-    wire = trial.closes(Wire(path))
+    wire = trial.closes(Admin(path))
     equal(wire.ask('get t1 7'), 'none', 'the answer of the node that has it')
-    with socket.socket() as taken:
-        taken.bind(('127.0.0.1', trial.ports.next()))
-        taken.listen()
+    with socket.create_server(('127.0.0.1', trial.ports.next())) as taken:
         port = taken.getsockname()[1]
         free = path + '2'
         fails(trial, with_lines(trial, 'admin unix:' + free, 'metrics ' + address(port)), 'metrics %s: Address already in use\n' % address(port))
@@ -424,9 +402,7 @@ def socket_of_another_kind(trial):
 @check
 def devices(trial):
     """a port that can't be had is named, with the system's reason"""
-    with socket.socket() as taken, socket.socket(socket.AF_INET6) as taken6:
-        taken.bind(('127.0.0.1', trial.ports.next()))
-        taken.listen()
+    with socket.create_server(('127.0.0.1', trial.ports.next())) as taken, socket.socket(socket.AF_INET6) as taken6:
         port = taken.getsockname()[1]
         in_use = 'Address already in use\n'
         fails(trial, with_lines(trial, listen=address(port)), 'listen %s: %s' % (address(port), in_use))
@@ -497,13 +473,13 @@ def few_descriptors(trial):
     waiting.send('GET /metrics HTTP/1.1\r\n\r\n')
     page = waiting.rest().decode('ascii')
     require('\nprocess_open_fds %d\n' % limit in page and '\nprocess_resident_memory_bytes ' in page, 'the metrics of the process:', page)
-    used = busy(node.child.pid)
+    used = processor_seconds(node.child.pid)
     for key in range(20):
         equal(node.admins.ask('track t1 %d add gpc0 1' % key), 'reply %d - %d 1 local' % (key + 1, key), 'a track')
         b.gets_row('t1', key, (1,), 3)
         time.sleep(0.1)
     b.stands()
-    between(0, busy(node.child.pid) - used, 1, 'processor time in two seconds, in s')
+    between(0, processor_seconds(node.child.pid) - used, 1, 'processor time in two seconds, in s')
     for one in crowd:
         one.close()
     c = wait(lambda: comes(trial, node), 15, 'a peer comes once there is room', node.said, pause=0.5)
@@ -640,7 +616,7 @@ def suspended(trial):
     waiting = node.admin()
     waiting.send('track t1 8 add gpc0 1\n')
     time.sleep(29)
-    used = busy(node.child.pid)
+    used = processor_seconds(node.child.pid)
     node.child.send_signal(signal.SIGCONT)
     equal(waiting.line(5), 'reply 2 - 8 1 local', 'the answer to a track that came meanwhile')
     between(29_000, max(int(said.keys['ms']) for said in node.logs('held-up')), 40_000, 'ms for which it stood still, as the log says')
@@ -651,7 +627,7 @@ def suspended(trial):
          'the other peer has the row', node.said)
     equal(node.ask('get t1 7'), 'row 1 - 7 1', 'a row from before')
     time.sleep(1)
-    between(0, busy(node.child.pid) - used, 3, 'processor time since, in s')
+    between(0, processor_seconds(node.child.pid) - used, 3, 'processor time since, in s')
     between(0, node.stop(), 5, 'seconds until it has ended')
 
 
@@ -677,7 +653,7 @@ def stops_beside_the_mute(trial):
     mute = connected(trial, node, manners=Manners(beats=False, acks='none', answer=b''))
     node.admins.send('track t1 7 add gpc0 1\n')
     for _ in range(6):
-        trial.closes(kept_open((node.host, node.port))).sendall(hello('n', 'd')[:9])
+        speaks(trial, node, hello('n', 'd')[:9])
     visits = [node.visit() for _ in range(8)]
     visits[0].send('GET /metrics HTTP/1.1\r\n')
     time.sleep(0.5)

@@ -9,10 +9,10 @@ import tempfile
 import time
 
 from checks.refusing import symbols
-from peering.far import REQUEST, Door, Far, connected, hello, kept_open, status_of
-from peering.lessons import definition, table
-from peering.node import T1, Node, address
-from peering.trial import PATIENCE, Skipped, between, check, equal, require, wait
+from harness.far import Door, Far, connected, speaks, status_of
+from harness.node import T1, Node, address
+from harness.trial import PATIENCE, Skipped, between, check, equal, require, wait
+from harness.wire import REQUEST, definition, hello, table
 from staying.clocks import SOON, Clocked, brings_on
 from staying.lacking import SEVEN, Refuser, at_rest, attempted
 from staying.resyncs import T2, tracked
@@ -175,8 +175,7 @@ def clock_of_renewals(trial):
     refuser.tell('refuse in %d' % keeper(node))
     tracked(node, 't1', [7])
     far.ends(SOON)
-    peer = trial.closes(kept_open((node.host, node.port)))
-    peer.sendall(hello('n', 'b'))
+    peer = speaks(trial, node, hello('n', 'b'))
     node.at(4_999)
     stays_silent(peer, 1.5)
     node.at(5_000)

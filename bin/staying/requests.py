@@ -9,14 +9,15 @@ import subprocess
 import tempfile
 import threading
 import time
+from typing import Any
 
-from fuzzing.messages import acknowledgement
-from peering.far import CONFIRMED, FINISHED, REQUEST, Manners, connected, hello, kept_open
-from peering.lessons import definition, table, update
-from peering.node import FIRST_MOMENT, T1, Admin, Node, address, reply
-from peering.trial import PATIENCE, Skipped, between, check, equal, matches, require, wait
+from harness.far import Manners, connected, speaks
+from harness.node import T1, Admin, Node, address, reply
+from harness.tables import FIRST_MOMENT
+from harness.trial import PATIENCE, Skipped, between, check, equal, matches, require, wait
+from harness.wire import CONFIRMED, FINISHED, REQUEST, acknowledgement, definition, hello, table, update
 from staying.resyncs import long_rows, tracked
-from staying.sessions import node_of_b, up_to_date
+from staying.sessions import node_of_b, up_to_date, with_b
 
 KINDS = ('table 1 t1 integer 4 30000 gpc0', 'table 2 v4 ipv4 4 0 gpc0', 'table 3 v6 ipv6 16 0 gpc0', 'table 4 st string 9 0 gpc0 server_key',
          'table 5 bin binary 3 0 bytes_in_cnt', 'table 6 r integer 4 0 gpc0_rate:10000')
@@ -112,15 +113,8 @@ GOOD = 'track t1 7 add gpc0 1\nstop\n'
 
 
 def answer_to(node, *pieces):
-    """Returns all that comes for some pieces of bytes until the node closes the connection."""
-    admin = node.admin()
-    for place, piece in enumerate(pieces):
-        if place:
-            time.sleep(0.1)
-        admin.send(piece)
-    came = admin.rest()
-    admin.close()
-    return came
+    """Returns all that comes from the admin port for some pieces of bytes until the node closes the connection."""
+    return node.admin().answer(*pieces)
 
 
 def is_untouched(node, what):
@@ -237,10 +231,11 @@ def no_requests_by_http(trial):
 def browsers(trial):
     """a client of HTTP gets the answer to each of its requests, and changes nothing"""
     node = alone(trial)
-    for method, path, body, status in (
-            ('POST', '/', '\n' + GOOD, 405), ('PUT', '/metrics', GOOD, 405), ('OPTIONS', '*', None, 405), ('HEAD', '/metrics', None, 200),
-            ('POST', '/', (GOOD * 20_000).encode(), 405), ('POST', '/', iter([GOOD.encode()] * 1000), 405),
-            ('GET', '/metrics', GOOD, 200), ('GET', '/stop', GOOD, 404)):
+    requests: tuple[tuple[str, str, Any, int], ...] = (
+        ('POST', '/', '\n' + GOOD, 405), ('PUT', '/metrics', GOOD, 405), ('OPTIONS', '*', None, 405), ('HEAD', '/metrics', None, 200),
+        ('POST', '/', (GOOD * 20_000).encode(), 405), ('POST', '/', iter([GOOD.encode()] * 1000), 405),
+        ('GET', '/metrics', GOOD, 200), ('GET', '/stop', GOOD, 404))
+    for method, path, body, status in requests:
         client = http_client.HTTPConnection(node.host, node.admin_port, timeout=5)
         with contextlib.suppress(ConnectionError):
             client.request(method, path, body)
@@ -538,13 +533,10 @@ def idle_clients(trial):
 @check
 def stops(trial):
     """stop ends a node with status 0 within 5 s, whoever is connected"""
-    node = node_of_b(trial, peers=('b', 'c 127.0.0.1:9'))
-    far = connected(trial, node)
-    up_to_date(node)
+    node, far = with_b(trial, peers=('b', 'c 127.0.0.1:9'))
     others = [node.admin() for _ in range(3)]
     others[0].send('track t1 7 add gpc0')
-    hanging = trial.closes(kept_open((node.host, node.port)))
-    hanging.sendall(hello('n', 'b')[:9])
+    speaks(trial, node, hello('n', 'b')[:9])
     between(0, node.stop(), 5, 'seconds until it has ended')
     far.ends(1)
     for admin in others:
@@ -554,9 +546,7 @@ def stops(trial):
 @check
 def stop_teaches_first(trial):
     """stop ends a session once its peer has acknowledged what was answered before"""
-    node = node_of_b(trial, tables=(T1,))
-    far = connected(trial, node)
-    up_to_date(node)
+    node, far = with_b(trial, tables=(T1,))
     time.sleep(0.5)
     admin = node.admin()
     admin.send(''.join('track t1 %d add gpc0 1\n' % key for key in range(2000)))
@@ -585,7 +575,8 @@ def tracked_until_it_stops(node, first, found):
 def stop_loses_nothing(trial):
     """each change that was answered is at the peers when the node has ended, also while clients go on tracking"""
     for _ in range(3):
-        node, found = node_of_b(trial, tables=(T1,)), []
+        node = node_of_b(trial, tables=(T1,))
+        found: list[int] = []
         far = connected(trial, node)
         up_to_date(node)
         threads = [threading.Thread(target=tracked_until_it_stops, args=(node, place * 1_000_000, found)) for place in range(8)]
@@ -617,9 +608,7 @@ def stop_of_a_young_session(trial):
 
 def behind(trial):
     """Returns a node and its peer, which has acknowledged a row of t1 and no further ones since: one is sent, and 598 wait for that."""
-    node = node_of_b(trial, tables=(T1,))
-    far = connected(trial, node)
-    up_to_date(node)
+    node, far = with_b(trial, tables=(T1,))
     node.ask('track t1 0 add gpc0 1')
     wait(lambda: node.shared('b', 't1')['acknowledged'] == '1', 2, 'the first row is acknowledged')
     far.manners = Manners(acks='none')
@@ -666,9 +655,7 @@ def stopped_by_a_unit(trial):
 
 def ends_by_its_socket(trial, perl, path):
     """Has the lines of the man page stop a node with a socket at this path."""
-    node = node_of_b(trial, tables=(T1,), more=('admin unix:' + path,))
-    far = connected(trial, node)
-    up_to_date(node)
+    node, far = with_b(trial, tables=(T1,), more=('admin unix:' + path,))
     tracked(node, 't1', range(1000))
     with open(MANUAL) as file:
         text = file.read().replace('\\e\n', ' ')
@@ -688,8 +675,7 @@ def stops_beside_the_deaf(trial):
     connected(trial, node, 'c')
     up_to_date(node)
     long_rows(node, 512)
-    peer = trial.closes(kept_open((node.host, node.port), buffer=2048))
-    peer.sendall(hello('n', 'b') + REQUEST)
+    speaks(trial, node, hello('n', 'b') + REQUEST, 2048)
     client = node.admin()
     client.send('show rows\n' * 20)
     time.sleep(1)
@@ -717,9 +703,7 @@ def stops_beside_the_busy(trial):
 @check
 def deaf_client(trial):
     """a client that doesn't read its answers delays nobody else, and takes little memory"""
-    node = node_of_b(trial, tables=(T1,))
-    far = connected(trial, node)
-    up_to_date(node)
+    node, far = with_b(trial, tables=(T1,))
     tracked(node, 't1', range(500))
     before = node.memory()
     client = node.admin()
@@ -735,9 +719,7 @@ def deaf_client(trial):
 @check
 def million_changes(trial):
     """a table takes more than a million changes, while a peer takes them in, and memory stays as it was after 100,000"""
-    node = node_of_b(trial, tables=(T1,))
-    far = connected(trial, node)
-    up_to_date(node)
+    node, far = with_b(trial, tables=(T1,))
     count, at_once = 1_010_000, 5000
     begun = time.monotonic()
     for place in range(count // at_once):
@@ -772,9 +754,7 @@ FAMILIES = ['haproxy_' + name for name in 'sticktable_size sticktable_used proce
 @check
 def metrics(trial):
     """GET /metrics gives each family with HELP and TYPE, and closes"""
-    node = node_of_b(trial, peers=('b', 'c'), tables=KINDS[:2])
-    far = connected(trial, node)
-    up_to_date(node)
+    node, far = with_b(trial, peers=('b', 'c'), tables=KINDS[:2])
     node.ask('track t1 7 add gpc0 1')
     far.gets_row('t1', 7, (1,))
     head, body = node.get('/metrics')
@@ -862,9 +842,7 @@ def other_pages(trial):
 @check
 def sections(trial):
     """a name on the wire that begins with / is shown with the section before it"""
-    node = node_of_b(trial, tables=('table 1 /ints integer 4 0 gpc0', 'table 2 plain integer 4 0 gpc0'), more=('section mesh',))
-    far = connected(trial, node)
-    up_to_date(node)
+    node, far = with_b(trial, tables=('table 1 /ints integer 4 0 gpc0', 'table 2 plain integer 4 0 gpc0'), more=('section mesh',))
     equal(node.ask('track mesh/ints 7 add gpc0 5'), 'reply 1 - 7 5 local', 'a track')
     far.gets_row('/ints', 7, (5,))
     equal(node.ask('show table'), ['# table: mesh/ints, type: integer, size:1000000, used:1', '# table: plain, type: integer, size:1000000, used:0'],

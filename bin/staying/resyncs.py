@@ -3,12 +3,11 @@
 import signal
 import time
 
-from fuzzing.messages import acknowledgement
-from peering.far import CONFIRMED, FINISHED, PARTIAL, REQUEST, Manners, connected
-from peering.lessons import definition, table, update
-from peering.node import T1
-from peering.trial import between, check, equal, require, wait
-from staying.sessions import KEEPS_QUIET, node_of_b, node_with_door, up_to_date
+from harness.far import Far, Manners, connected
+from harness.node import T1
+from harness.trial import between, check, equal, require, wait
+from harness.wire import CONFIRMED, FINISHED, PARTIAL, REQUEST, acknowledgement, definition, table, update
+from staying.sessions import KEEPS_QUIET, node_of_b, node_with_door, up_to_date, with_b
 
 T2 = 'table 2 t2 integer 4 0 gpc0'
 NAMES = ('table 1 st integer 4 0 server_key', 'table 2 su integer 4 0 server_key')
@@ -51,9 +50,7 @@ def finishes(far, times=1, seconds=2, message=FINISHED):
 @check
 def resync(trial):
     """a far side that asks is taught all rows of all tables, told so, and may confirm it"""
-    node = node_of_b(trial, tables=(T1, T2))
-    far = connected(trial, node)
-    up_to_date(node)
+    node, far = with_b(trial, tables=(T1, T2))
     tracked(node, 't1', range(5))
     tracked(node, 't2', range(3))
     far.close()
@@ -72,9 +69,7 @@ def resync(trial):
 @check
 def resync_of_nothing(trial):
     """a resync without rows ends at once"""
-    node = node_of_b(trial)
-    far = connected(trial, node)
-    up_to_date(node)
+    node, far = with_b(trial)
     far.close()
     far = connected(trial, node)
     between(0, finishes(far), 1, 'seconds until its end')
@@ -84,9 +79,7 @@ def resync_of_nothing(trial):
 @check
 def long_resync(trial):
     """a resync of many rows goes in lessons of 512 at most, each acknowledged before the next"""
-    node = node_of_b(trial)
-    far = connected(trial, node)
-    up_to_date(node)
+    node, far = with_b(trial)
     tracked(node, 't1', range(1200))
     far.close()
     far = connected(trial, node, manners=Manners(acks='none'))
@@ -103,9 +96,7 @@ def long_resync(trial):
 @check
 def taught_back(trial):
     """a resync teaches what stood when it began, so it ends, also if the far side teaches each row back"""
-    node = node_of_b(trial)
-    far = connected(trial, node)
-    up_to_date(node)
+    node, far = with_b(trial)
     tracked(node, 't1', range(100))
     far.close()
     far = connected(trial, node, manners=Manners(acks='none'), behind=REQUEST)
@@ -133,9 +124,7 @@ def partial_resync(trial):
 @check
 def broken_resync(trial):
     """a resync is broken if the session ends before it, and the next one teaches all rows"""
-    node = node_of_b(trial)
-    far = connected(trial, node)
-    up_to_date(node)
+    node, far = with_b(trial)
     node.ask('track t1 7 add gpc0 1')
     far = again(trial, node, far, Manners(acks='none'))
     far.send(REQUEST)
@@ -163,7 +152,7 @@ def asks_the_next(trial):
     """a node asks one peer at a time, until one ends its resync as finished"""
     node = node_of_b(trial, peers=('b', 'c', 'd'))
     fars = [connected(trial, node, name, KEEPS_QUIET) for name in 'bcd']
-    asked = []
+    asked: list[Far] = []
     for answer in (PARTIAL, PARTIAL, FINISHED):
         wait(lambda: sum(far.count(REQUEST) for far in fars) > len(asked), 2, 'the node asks')
         time.sleep(0.3)
@@ -373,9 +362,7 @@ def asked_on_the_next_session(trial):
 @check
 def asks_nobody_at_a_reconnection(trial):
     """a node that is up to date asks nobody any more"""
-    node = node_of_b(trial, peers=('b', 'c'))
-    far = connected(trial, node)
-    up_to_date(node)
+    node, far = with_b(trial, peers=('b', 'c'))
     far.close()
     fars = [connected(trial, node), connected(trial, node, 'c')]
     time.sleep(0.7)
@@ -402,9 +389,7 @@ def acknowledges_no_number_again(trial):
 @check
 def one_table_never_acknowledged(trial):
     """a table of which nothing is acknowledged for 2 s is left: the resync ends as partial, and the other table is taught on"""
-    node = node_of_b(trial, tables=(T1, T2))
-    far = connected(trial, node)
-    up_to_date(node)
+    node, far = with_b(trial, tables=(T1, T2))
     tracked(node, 't1', range(5))
     tracked(node, 't2', range(3))
     far.close()
@@ -426,9 +411,7 @@ def one_table_never_acknowledged(trial):
 @check
 def pushed_and_never_acknowledged(trial):
     """a table that is pushed and of which nothing is acknowledged is left too"""
-    node = node_of_b(trial, tables=(T1, T2))
-    far = connected(trial, node, manners=Manners(passed=('t2',)))
-    up_to_date(node)
+    node, far = with_b(trial, manners=Manners(passed=('t2',)), tables=(T1, T2))
     time.sleep(0.4)
     node.ask('track t2 1 add gpc0 1')
     far.gets_row('t2', 1, (1,), 1)
@@ -443,18 +426,22 @@ def pushed_and_never_acknowledged(trial):
     equal(node.shared('b', 't2')['left'], 'no', 'left on the next connection')
 
 
-@check
-def names_alone(trial):
-    """the first lesson of a table with server names goes alone, until it is acknowledged"""
-    node = node_of_b(trial, tables=NAMES)
-    far = connected(trial, node)
-    up_to_date(node)
+def taught_names(trial):
+    """Returns a far side that is taught two tables with the same name of a server, and has got the first lesson."""
+    node, far = with_b(trial, tables=NAMES)
     for name in ('st', 'su'):
         node.ask('track %s 1 name s1' % name)
     far.close()
     far = connected(trial, node, manners=Manners(acks='none'))
     far.send(REQUEST)
     wait(far.updates, 2, 'the first lesson')
+    return far
+
+
+@check
+def names_alone(trial):
+    """the first lesson of a table with server names goes alone, until it is acknowledged"""
+    far = taught_names(trial)
     time.sleep(0.5)
     equal(len(far.updates()), 1, 'updates before an acknowledgement')
     first = far.updates()[0]
@@ -469,15 +456,7 @@ def names_alone(trial):
 @check
 def names_forgotten(trial):
     """once a table with server names is left, no later lesson reads the names that its own wrote"""
-    node = node_of_b(trial, tables=NAMES)
-    far = connected(trial, node)
-    up_to_date(node)
-    for name in ('st', 'su'):
-        node.ask('track %s 1 name s1' % name)
-    far.close()
-    far = connected(trial, node, manners=Manners(acks='none'))
-    far.send(REQUEST)
-    wait(far.updates, 2, 'the first lesson')
+    far = taught_names(trial)
     far.manners = Manners(passed=(far.updates()[0].table.name.decode(),))
     wait(lambda: len(far.updates()) == 2, 4, 'the second lesson', far.shown)
     far.gets(PARTIAL, 2)
@@ -516,7 +495,7 @@ def taught_by_a_far_side(trial):
              + update(st, 9, b'a', (), name=('write', 1, b's1')) + update(st, None, b'b', (), name=('read', 1)) + FINISHED)
     far.gets(CONFIRMED, 2)
     far.gets_ack(502, 10, 2)
-    equal(far.acks(), [(501, 4000), (502, 10)], 'acknowledgements')
+    equal(far.acks, [(501, 4000), (502, 10)], 'acknowledgements')
     row = node.ask('get /ints 7').split(' ')
     now = int(node.head()['moment'])
     between(now + 18000, int(row[2]), now + 20000, 'the end of the row')

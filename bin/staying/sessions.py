@@ -3,13 +3,12 @@
 import os
 import time
 
-from fuzzing.messages import acknowledgement
-from peering.far import (CONFIRMED, FINISHED, HEARTBEAT, OLDER_VERSION, PROTOCOL_ERROR, REQUEST, VERSION, Door, Manners, connected, hello,
-                         is_closed, kept_open, status_of)
-from peering.lessons import definition, table, update
-from peering.node import T1, Node, address
-from peering.ports import held
-from peering.trial import Skipped, between, check, equal, matches, require, wait
+from harness.far import Door, Manners, connected, is_closed, speaks, status_of
+from harness.node import T1, Node, address
+from harness.ports import held
+from harness.trial import Skipped, between, check, equal, matches, require, wait
+from harness.wire import (CONFIRMED, FINISHED, HEARTBEAT, OLDER_VERSION, PROTOCOL_ERROR, REQUEST, VERSION, acknowledgement,
+                          definition, hello, table, update)
 
 T1_THERE = table(77, 't1')
 T1_THAT_ENDS = 'table 1 t1 integer 4 600000 gpc0'
@@ -19,6 +18,14 @@ KEEPS_QUIET = Manners(answer=b'')
 def node_of_b(trial, **other):
     """Returns a node that waits for its peer b."""
     return Node(trial, **other).start()
+
+
+def with_b(trial, manners=Manners(), of=Node, **other):
+    """Returns a node and its peer b, which has connected, once the node is up to date."""
+    node = of(trial, **other).start()
+    far = connected(trial, node, manners=manners)
+    up_to_date(node)
+    return node, far
 
 
 def node_with_door(trial, manners=Manners(), **other):
@@ -238,9 +245,7 @@ def bytes_are_enough(trial):
 @check
 def a_byte_a_second(trial):
     """a far side that sends a byte a second of a long message is no silent one"""
-    node = node_of_b(trial, tables=('table 1 st string 33 0 gpc0',))
-    far = connected(trial, node, manners=Manners(beats=False))
-    up_to_date(node)
+    node, far = with_b(trial, manners=Manners(beats=False), tables=('table 1 st string 33 0 gpc0',))
     there = table(77, 'st', 'string')
     far.send(definition(there))
     for byte in update(there, 1, b'k' * 8, (1,)):
@@ -323,9 +328,7 @@ def version_2_0(trial):
 @check
 def pushes_late(trial):
     """a node pushes nothing in the first 300 ms of a session, and then its own rows, all of them at each connection"""
-    node = node_of_b(trial)
-    far = connected(trial, node)
-    up_to_date(node)
+    node, far = with_b(trial)
     for key in range(3):
         node.ask('track t1 %d add gpc0 1' % key)
     for _ in range(2):
@@ -340,13 +343,11 @@ def pushes_late(trial):
 @check
 def learned_rows(trial):
     """rows that a node learned go to those alone who ask for a resync"""
-    node = node_of_b(trial, peers=('b', 'c', 'd'))
-    b = connected(trial, node)
-    up_to_date(node)
+    node, b = with_b(trial, peers=('b', 'c', 'd'))
     c = connected(trial, node, 'c')
     b.send(definition(T1_THERE) + update(T1_THERE, 900, 7, (5,)) + update(T1_THERE, None, 8, (6,)))
     b.gets_ack(77, 901, 2)
-    equal(b.acks(), [(77, 901)], 'the acknowledgements')
+    equal(b.acks, [(77, 901)], 'the acknowledgements')
     equal(node.ask('get t1 8'), 'row 1 - 8 6', 'the row')
     time.sleep(0.7)
     equal((b.updates(), c.updates()), ([], []), 'updates that nobody asked for')
@@ -363,9 +364,7 @@ def learned_rows(trial):
 @check
 def later_writer(trial):
     """the last writer wins: a learned row replaces an own one, which is then pushed to nobody, and an own change the learned one"""
-    node = node_of_b(trial)
-    far = connected(trial, node)
-    up_to_date(node)
+    node, far = with_b(trial)
     node.ask('track t1 7 add gpc0 3')
     far.gets_row('t1', 7, (3,))
     far.send(definition(T1_THERE) + update(T1_THERE, 1, 7, (100,)))
@@ -378,12 +377,9 @@ def later_writer(trial):
 @check
 def second_that_leaves(trial):
     """a second connection of a peer that leaves within 300 ms changes nothing"""
-    node = node_of_b(trial)
-    far = connected(trial, node)
-    up_to_date(node)
+    node, far = with_b(trial)
     for _ in range(2):
-        peer = kept_open(('127.0.0.1', node.port))
-        peer.sendall(hello('n', 'b'))
+        peer = speaks(trial, node, hello('n', 'b'))
         time.sleep(0.05)
         peer.close()
         time.sleep(0.8)
@@ -400,8 +396,7 @@ def second_that_stays(trial):
     first = connected(trial, node)
     up_to_date(node)
     begun = time.monotonic()
-    peer = trial.closes(kept_open(('127.0.0.1', node.port)))
-    peer.sendall(hello('n', 'b'))
+    peer = speaks(trial, node, hello('n', 'b'))
     equal(status_of(peer, 3), b'200\n', 'the status')
     between(0.28, time.monotonic() - begun, 1.5, 'seconds until the status')
     between(0.28, first.ends(2) - begun, 2, 'seconds until the first is closed')
@@ -415,11 +410,9 @@ def gone_and_back(trial):
     """a peer whose connection ends right behind its hello, and that connects again at once, is answered each time"""
     node = node_of_b(trial)
     for _ in range(60):
-        gone = kept_open(('127.0.0.1', node.port))
-        gone.sendall(hello('n', 'b'))
+        gone = speaks(trial, node, hello('n', 'b'))
         gone.close()
-        peer = kept_open(('127.0.0.1', node.port))
-        peer.sendall(hello('n', 'b'))
+        peer = speaks(trial, node, hello('n', 'b'))
         equal(status_of(peer, 3), b'200\n', 'the status')
         peer.close()
         time.sleep(0.02)
@@ -441,9 +434,7 @@ def two_peers_apart(trial):
 @check
 def acknowledged_ahead(trial):
     """an acknowledgement above all that was taught is a protocol error"""
-    node = node_of_b(trial)
-    far = connected(trial, node, manners=Manners(acks='none'))
-    up_to_date(node)
+    node, far = with_b(trial, manners=Manners(acks='none'))
     node.ask('track t1 7 add gpc0 1')
     far.gets_row('t1', 7, (1,))
     far.send(acknowledgement(1, 2))
@@ -456,9 +447,7 @@ def acknowledged_ahead(trial):
 @check
 def other_acknowledgements(trial):
     """acknowledgements of tables that aren't there, and old ones, change nothing"""
-    node = node_of_b(trial)
-    far = connected(trial, node)
-    up_to_date(node)
+    node, far = with_b(trial)
     for value in range(1, 4):
         node.ask('track t1 7 add gpc0 1')
         far.gets_row('t1', 7, (value,))

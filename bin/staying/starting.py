@@ -7,19 +7,17 @@ import subprocess
 import sys
 import time
 
-from peering.far import Door, hello, kept_open
-from peering.node import T1, Node, address
-from peering.trial import PATIENCE, Skipped, between, check, equal, require, wait
+from harness.far import Door, speaks
+from harness.node import T1, Node, address
+from harness.trial import PATIENCE, Skipped, between, check, equal, require, wait
+from harness.wire import hello
 
 NEEDED = b'node n\nlisten 127.0.0.1:%d\n' + T1.encode() + b'\n'
 
 
 def ends(trial, words, text, status, errors):
     """Checks that the program ends so at once, and prints nothing on standard output."""
-    try:
-        run = subprocess.run([trial.program, *words], input=text, capture_output=True, timeout=PATIENCE, check=False)
-    except subprocess.TimeoutExpired:
-        require(False, 'it does not end: %s' % ' '.join(words), text[-200:])
+    run = trial.run(*words, text=text)
     wanted = status, b'', run.stderr if errors is None else errors
     equal((run.returncode, run.stdout, run.stderr), wanted, '%s with %r' % (' '.join(words), text[-200:]))
 
@@ -31,7 +29,7 @@ def heads_of(lines):
 
 def refused(trial, words, text, heads):
     """Returns the lines on standard error, which say that a configuration is refused and begin so, and warn of others."""
-    run = subprocess.run([trial.program, *words], input=text, capture_output=True, timeout=PATIENCE, check=False)
+    run = trial.run(*words, text=text)
     lines = run.stderr.splitlines()
     equal((run.returncode, run.stdout, heads_of(lines)), (1, b'', heads), '%s with %r' % (' '.join(words), text[-200:]))
     return lines
@@ -42,7 +40,7 @@ def run_with_a_file(trial):
     """`run` with a word that is no option says that the configuration is read from standard input, and other refused words don't"""
     hint = b'The configuration is read from standard input: peers_node run < FILE\n'
     for words, wanted in ((('run', 'node.conf'), True), (('run', '--check', 'node.conf'), True), (('run', '--chek'), False), (('lesson', 'node.conf'), False)):
-        run = subprocess.run([trial.program, *words], stdin=subprocess.DEVNULL, capture_output=True, timeout=PATIENCE, check=False)
+        run = trial.run(*words)
         equal((run.returncode, run.stdout, run.stderr.endswith(b'\n' + hint)), (2, b'', wanted), ' '.join(words))
         require(run.stderr.startswith(b'error: '), 'what is wrong:', run.stderr)
 
@@ -51,11 +49,13 @@ def run_with_a_file(trial):
 def refused_configurations(trial):
     """a configuration that breaks a rule is refused, with --check and without"""
     good = NEEDED % trial.ports.next()
-    for text, heads in ((b'', [None] * 3), (b'# nothing\n\n', [None] * 3), (b'node n\n' + T1.encode() + b'\n', [None]),
-                        (b'nod m\nnode n\n' + T1.encode() + b'\n', [1, None]), (good + b'nod m\nnode m\n', [4, 5]),
-                        (good + b'node m\n', [4]), (good + b'admin 10.0.0.1:9\n', [4]), (good + b'admin 127.0.0.1:0\n', [4]), (good + b'peer n\n', [4]),
-                        (good + b'peer b localhost:9\n', [4]), (good + b'size 2 5\n', [4]), (good + b'\n#\nsize 1 0\n', [6]),
-                        (good + b'moment 4294967296\n', [4]), (good + b'table 2147483648 t2 integer 4 0\n', [4]), (good + b'peer b\r\r\n', [4])):
+    texts: tuple[tuple[bytes, list], ...] = (
+        (b'', [None] * 3), (b'# nothing\n\n', [None] * 3), (b'node n\n' + T1.encode() + b'\n', [None]),
+        (b'nod m\nnode n\n' + T1.encode() + b'\n', [1, None]), (good + b'nod m\nnode m\n', [4, 5]),
+        (good + b'node m\n', [4]), (good + b'admin 10.0.0.1:9\n', [4]), (good + b'admin 127.0.0.1:0\n', [4]), (good + b'peer n\n', [4]),
+        (good + b'peer b localhost:9\n', [4]), (good + b'size 2 5\n', [4]), (good + b'\n#\nsize 1 0\n', [6]),
+        (good + b'moment 4294967296\n', [4]), (good + b'table 2147483648 t2 integer 4 0\n', [4]), (good + b'peer b\r\r\n', [4]))
+    for text, heads in texts:
         wanted = [b'configuration' if line is None else b'line %d' % line for line in heads]
         errors = [refused(trial, words, text, wanted) for words in (('run',), ('run', '--check'))]
         equal(errors[0], errors[1], 'run and run --check with %r' % text[-200:])
@@ -64,9 +64,7 @@ def refused_configurations(trial):
 @check
 def checked_configurations(trial):
     """--check of a configuration that keeps the rules opens no port, and prints nothing but warnings"""
-    with socket.socket() as taken:
-        taken.bind(('127.0.0.1', trial.ports.next()))
-        taken.listen()
+    with socket.create_server(('127.0.0.1', trial.ports.next())) as taken:
         port = taken.getsockname()[1]
         ends(trial, ('run', '--check'), NEEDED % port + b'admin 127.0.0.1:%d\npeer b 127.0.0.1:9\n' % (port - 1), 0, b'')
         ends(trial, ('run', '--check'), NEEDED % port + b'admin 127.0.0.1:%d\npeer b 127.0.0.1:9\n' % port, 0,
@@ -91,9 +89,7 @@ def port_taken(trial, lines, said):
 @check
 def taken_port(trial):
     """a port that can't be had is a device fault, before any connection is made"""
-    with socket.socket() as taken:
-        taken.bind(('127.0.0.1', trial.ports.next()))
-        taken.listen()
+    with socket.create_server(('127.0.0.1', trial.ports.next())) as taken:
         port = taken.getsockname()[1]
         port_taken(trial, b'node n\nlisten 127.0.0.1:%d\n' % port, b'listen 127.0.0.1:%d: Address already in use\n' % port)
         port_taken(trial, b'node n\nlisten 127.0.0.1:%d\nadmin 127.0.0.1:%d\n' % (trial.ports.next(), port),
@@ -103,16 +99,12 @@ def taken_port(trial):
 @check
 def said_for_the_journal(trial):
     """with `log journal`, wherever it stands, each line that is said before the log begins has the number of an error for systemd's journal"""
-    with socket.socket() as taken:
-        taken.bind(('127.0.0.1', trial.ports.next()))
-        taken.listen()
+    with socket.create_server(('127.0.0.1', trial.ports.next())) as taken:
         port = taken.getsockname()[1]
         port_taken(trial, b'log journal # here\nnode n\nlisten 127.0.0.1:%d\n' % port, b'<3>listen 127.0.0.1:%d: Address already in use\n' % port)
-    run = subprocess.run([trial.program, 'run'], input=b'nod m\nnode m\n\tlog  journal\r\n' + T1.encode(), capture_output=True, timeout=PATIENCE, check=False)
-    lines = run.stderr.splitlines()
-    equal((run.returncode, heads_of(lines)), (1, [b'<3>line 1', b'<3>configuration']), 'the lines of a refused configuration')
-    require(all(line.startswith(b'<3>') for line in lines), 'each line has the number of an error:', run.stderr)
-    run = subprocess.run([trial.program, 'run'], input=b'nod m\n# log journal\nlog journals\n', capture_output=True, timeout=PATIENCE, check=False)
+    lines = refused(trial, ('run',), b'nod m\nnode m\n\tlog  journal\r\n' + T1.encode(), [b'<3>line 1', b'<3>configuration'])
+    require(all(line.startswith(b'<3>') for line in lines), 'each line has the number of an error:', lines)
+    run = trial.run('run', text=b'nod m\n# log journal\nlog journals\n')
     require(b'<3>' not in run.stderr, 'no number without such a line:', run.stderr)
 
 
@@ -177,7 +169,7 @@ def session_without_a_thread(trial):
     wait(node.listens, PATIENCE, 'the node listens', node.said)
     for name in 'cb':
         if name == 'b':
-            trial.closes(kept_open((node.host, node.port))).sendall(hello('n', 'b'))
+            speaks(trial, node, hello('n', 'b'))
         said, = node.logs('unreachable', seconds=5, peer=name)
         equal((said.level, 'lacks memory or a thread' in said.sentence), ('warn', True), 'the line about a session')
 

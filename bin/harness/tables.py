@@ -1,8 +1,6 @@
-"""Tables, their keys, values and names: random ones, as bytes of a stream and as words of a scene (docs/FORMATS.md, 3, 10 and 11)."""
+"""The model of a table, of its keys, values and names: random ones, and their words in a scene (docs/FORMATS.md, 3, 10 and 11)."""
 
 from collections import namedtuple
-
-from fuzzing.messages import encoded
 
 TYPES = ('server_id gpt0 gpc0 gpc0_rate conn_cnt conn_rate conn_cur sess_cnt sess_rate http_req_cnt http_req_rate http_err_cnt '
          'http_err_rate bytes_in_cnt bytes_in_rate bytes_out_cnt bytes_out_rate gpc1 gpc1_rate server_key').split()
@@ -103,26 +101,6 @@ def random_life(random, table):
     if table.expire == 0:
         return 0
     return random.choice((1, table.expire, max(1, table.expire // 2), random.randint(1, table.expire)))
-
-
-# --- Bytes
-
-def definition_data(table, identifier, expire):
-    """Returns the data of the table's definition under an id and with an expire."""
-    bits = sum(1 << at for at in table.types)
-    fields = [encoded(identifier), encoded(len(table.name)), table.name, encoded(KINDS[table.kind]), encoded(table.length),
-              encoded(bits), encoded(expire)]
-    for at, period in table.periods:
-        fields += (encoded(at), encoded(period))
-    return b''.join(fields)
-
-
-def key_bytes(table, key):
-    return encoded(len(key)) + key if table.kind == 'string' else key
-
-
-def value_bytes(values):
-    return b''.join([encoded(value) if isinstance(value, int) else b''.join(map(encoded, value)) for value in values])
 
 
 # --- Words

@@ -1,4 +1,4 @@
-"""A node that stays, as `run` starts it, and its admin port."""
+"""A node that stays, as `run` starts it, its admin port, and its log."""
 
 import collections
 import os
@@ -7,12 +7,15 @@ import socket
 import subprocess
 import tempfile
 import time
+from collections import namedtuple
+from typing import Any
 
-from peering.logs import all_said, chosen
-from peering.trial import PATIENCE, Late, equal, matches, require, wait
+from harness.tables import FIRST_MOMENT
+from harness.trial import PATIENCE, Late, equal, matches, require, wait
 
-FIRST_MOMENT = 2 ** 32
 T1 = 'table 1 t1 integer 4 0 gpc0'
+# The environment that digbaro.service gives the node.
+AS_THE_UNIT = {**os.environ, 'MALLOC_ARENA_MAX': '2'}
 
 
 def address(port):
@@ -20,31 +23,47 @@ def address(port):
 
 
 class Admin:
-    """A connection to an admin port."""
+    """A connection to an admin port, or to a socket at a file, whose path is given in place of the port."""
 
     def __init__(self, port, host='127.0.0.1'):
-        self.peer = socket.create_connection((host, port), timeout=PATIENCE)
-        self.peer.setsockopt(socket.IPPROTO_TCP, socket.TCP_NODELAY, 1)
-        self.whole, self.left = collections.deque(), b''
+        if isinstance(port, str):
+            self.peer = socket.socket(socket.AF_UNIX)
+            self.peer.settimeout(PATIENCE)
+            self.peer.connect(port)
+        else:
+            self.peer = socket.create_connection((host, port), timeout=PATIENCE)
+            self.peer.setsockopt(socket.IPPROTO_TCP, socket.TCP_NODELAY, 1)
+        self.whole: collections.deque[bytes] = collections.deque()
+        self.left, self.ended = b'', False
 
     def send(self, text):
         self.peer.sendall(text if isinstance(text, bytes) else text.encode())
 
+    def more(self, seconds):
+        """Reads what comes. Returns whether something did in time, or the connection is over."""
+        self.peer.settimeout(max(0.001, seconds))
+        try:
+            came = self.peer.recv(1 << 16)
+        except socket.timeout:
+            return False
+        except OSError:
+            came = b''
+        self.ended = not came
+        *whole, self.left = (self.left + came).split(b'\n')
+        self.whole.extend(whole)
+        return True
+
+    def unread(self):
+        """Returns all that came and wasn't read as lines yet."""
+        return b''.join(line + b'\n' for line in self.whole) + self.left
+
     def line(self, seconds=PATIENCE):
         """Returns the next line that comes, without its end; None once the connection is over."""
-        self.peer.settimeout(seconds)
         while not self.whole:
-            try:
-                came = self.peer.recv(1 << 16)
-            except ConnectionError:
-                came = b''
-            except socket.timeout:
-                require(False, 'the admin port does not answer in %g s' % seconds, self.left, wrong=Late)
-            if not came:
+            require(self.more(seconds), 'the admin port does not answer in %g s' % seconds, self.left, wrong=Late)
+            if self.ended:
                 require(not self.left, 'half a line of the admin port:', self.left)
                 return None
-            *whole, self.left = (self.left + came).split(b'\n')
-            self.whole.extend(whole)
         return self.whole.popleft().decode('ascii')
 
     def lines(self):
@@ -62,16 +81,18 @@ class Admin:
 
     def rest(self, seconds=PATIENCE):
         """Returns all that comes until the connection is over."""
-        self.peer.settimeout(seconds)
-        came = [b''.join(line + b'\n' for line in self.whole) + self.left]
-        try:
-            while came[-1] or len(came) == 1:
-                came.append(self.peer.recv(1 << 16))
-        except ConnectionError:
-            pass
-        except socket.timeout:
-            require(False, 'the admin port keeps the connection open after', b''.join(came), wrong=Late)
-        return b''.join(came)
+        while not self.ended:
+            require(self.more(seconds), 'the admin port keeps the connection open after', self.unread(), wrong=Late)
+        return self.unread()
+
+    def answer(self, *pieces):
+        """Sends pieces of bytes, with a pause between two, and returns all that comes until the node closes the connection."""
+        for place, piece in enumerate(pieces):
+            time.sleep(0.1 if place else 0)
+            self.send(piece)
+        came = self.rest()
+        self.close()
+        return came
 
     def is_over(self):
         """Whether the node has closed it, as it closes one that is idle for a minute, or idle longest when another comes."""
@@ -101,18 +122,21 @@ class Node:
         self.host = host
         self.port = port or trial.ports.next()
         self.admin_port = trial.ports.next() if admin else None
-        at = '[%s]:%d' if ':' in host else '%s:%d'
-        lines = ['node ' + name, 'listen ' + at % (host, self.port)]
-        lines += ['admin ' + at % (host, self.admin_port)] if admin else []
-        lines += ['peer ' + peer for peer in peers] + list(tables) + list(more)
-        self.configuration = ''.join(line + '\n' for line in lines)
-        self.within = ()  # The words of a command line before those of the program.
-        self.environment = None  # Its environment, if that isn't this process's.
-        self.told = None  # Its standard error, if that isn't a file of its own.
+        self.configure(peers, (*tables, *more))
+        self.within: tuple = ()  # The words of a command line before those of the program.
+        self.environment: Any = None  # Its environment, if that isn't this process's.
+        self.told: Any = None  # Its standard error, if that isn't a file of its own.
         self.may_end = False
-        self.admins = None
-        self.child = None
+        self.admins: Any = None
+        self.child: Any = None
         trial.nodes.append(self)
+
+    def configure(self, peers, more):
+        """Makes its configuration, of its peers and further lines."""
+        at = '[%s]:%d' if ':' in self.host else '%s:%d'
+        lines = ['node ' + self.name, 'listen ' + at % (self.host, self.port)]
+        lines += ['admin ' + at % (self.host, self.admin_port)] if self.admin_port else []
+        self.configuration = ''.join(line + '\n' for line in (*lines, *('peer ' + peer for peer in peers), *more))
 
     def start(self):
         """Starts it, waits until it listens, and returns it."""
@@ -272,6 +296,17 @@ class Node:
         return wrongs
 
 
+def mesh(trial, names, tables=(T1,), environment=None):
+    """Returns nodes that all know each other, started."""
+    ports = {name: trial.ports.next() for name in names}
+    nodes = [Node(trial, name, ['%s %s' % (other, address(ports[other])) for other in names if other != name], tables, port=ports[name])
+             for name in names]
+    for node in nodes:
+        node.environment = environment
+        node.start()
+    return nodes
+
+
 def listening(port, host='127.0.0.1'):
     """Whether somebody listens at a port. No connection is made, but the kernel takes some ms to say it."""
     wanted = ':%04X' % port
@@ -288,3 +323,37 @@ def reply(line, what='a reply'):
     """Returns the number, the end and the rest of a line `reply`."""
     match = matches(r'reply ([0-9]+) (-|[0-9]+) (.*)', line, what)
     return int(match[1]), match[2], match[3]
+
+
+# --- Its log
+
+LEVELS = {'3': 'error', '4': 'warn', '6': 'info', '7': 'debug'}
+# With a time and a level, or with the level's number as systemd's journal reads it; then the event, its keys, and a sentence.
+LINE = re.compile(r'(?:(?P<time>[0-9]{4}-[01][0-9]-[0-3][0-9]T[0-2][0-9]:[0-5][0-9]:[0-5][0-9]\.[0-9]{3}Z) (?P<level>error|warn|info|debug) '
+                  r'|<(?P<number>[3467])>)event=(?P<event>[a-z-]+)(?P<keys>(?: [a-z]+=[!-~]+)*): (?P<sentence>[ -~]+)')
+
+# What a line says: its time, if it has one, its level, its event, the values of its keys, and its sentence.
+Said = namedtuple('Said', 'time level event keys sentence')
+
+
+def said_by(line):
+    """Returns what a line says, or None if it has another form."""
+    match = LINE.fullmatch(line)
+    if match is None or ': ' in line[:match.start('sentence') - 2]:
+        return None
+    keys = dict(word.split('=', 1) for word in match['keys'].split(' ')[1:])
+    return Said(match['time'], match['level'] or LEVELS[match['number']], match['event'], keys, match['sentence'])
+
+
+def all_said(text):
+    """Returns what the lines of a log say. Each has to have the form of one; a last line without its end isn't looked at."""
+    lines = [(line, said_by(line)) for line in text.decode('latin-1').split('\n')[:-1]]
+    for line, said in lines:
+        require(said is not None, 'a line of the log has another form:', line)
+    return [said for _, said in lines]
+
+
+def chosen(lines, event, keys):
+    """Returns those that say an event, if one is given, with these values of keys."""
+    return [said for said in lines
+            if event in (None, said.event) and all(said.keys.get(key) == str(value) for key, value in keys.items())]

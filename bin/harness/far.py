@@ -14,13 +14,8 @@ import threading
 import time
 from collections import namedtuple
 
-from fuzzing.messages import ACKNOWLEDGEMENT, TABLE_CLASS, acknowledgement, decoded, framed, framed_length
-from peering.lessons import Lessons, Misread
-from peering.trial import PATIENCE, Late, require, wait
-
-REQUEST, FINISHED, PARTIAL, CONFIRMED, HEARTBEAT = (bytes((0, at)) for at in range(5))
-PROTOCOL_ERROR, SIZE_LIMIT = b'\1\0', b'\1\1'
-VERSION, OLDER_VERSION = b'HAProxyS 2.1', b'HAProxyS 2.0'
+from harness.trial import PATIENCE, Late, require, wait
+from harness.wire import FINISHED, HEARTBEAT, TABLE_CLASS, VERSION, Heard, Misread, Update, acknowledgement, hello
 
 # How the kernel says when bytes came, by its own clock, however late they are read.
 STAMPS = 35
@@ -28,10 +23,6 @@ STAMPS = 35
 Manners = namedtuple('Manners', 'beats acks passed answer', defaults=(True, 'all', (), FINISHED))
 # A message, and the moment at which it came.
 Came = namedtuple('Came', 'moment kind data')
-
-
-def hello(to, name, version=VERSION):
-    return b'%s\n%s\n%s 1 1\n' % (version, to.encode(), name.encode())
 
 
 def kept_open(address, buffer=None):
@@ -42,6 +33,24 @@ def kept_open(address, buffer=None):
     peer.settimeout(PATIENCE)
     peer.connect(address)
     peer.setsockopt(socket.IPPROTO_TCP, socket.TCP_NODELAY, 1)
+    return peer
+
+
+def stamped(peer):
+    """Returns what comes next on a connection with stamps, and when it came, as the kernel says it, however late this thread runs."""
+    data, notes, _, _ = peer.recvmsg(1 << 16, 64)
+    moment = time.monotonic()
+    for level, kind, stamp in notes:
+        if (level, kind) == (socket.SOL_SOCKET, STAMPS):
+            seconds, nanoseconds = struct.unpack('qq', stamp[:16])
+            moment = min(moment, seconds + nanoseconds / 1e9 - time.time() + time.monotonic())
+    return data, moment
+
+
+def speaks(trial, node, data, buffer=None, port=None):
+    """Returns a connection to a node's port for peers, or to another port of it, that has said something; `buffer` is as in `kept_open`."""
+    peer = trial.closes(kept_open((node.host, port or node.port), buffer))
+    peer.sendall(data)
     return peer
 
 
@@ -77,22 +86,23 @@ def is_closed(peer, seconds):
     return False
 
 
-class Far:
+class Far(Heard):
     """One end of a connection whose hello was answered with 200. `came` is what came since then, message by message. `asked` is when the
     hello was sent, or had come."""
 
     def __init__(self, peer, manners=Manners(), asked=None):
+        super().__init__()
         self.peer = peer
         self.peer.setsockopt(socket.SOL_SOCKET, STAMPS, 1)
         self.manners = manners
         self.begun = time.monotonic()
         self.asked = asked or self.begun
-        self.came = []
-        self.lessons = Lessons()
-        self.acknowledged = {}
-        self.owing = {}
-        self.wrong = None
-        self.over = None
+        self.came: list[Came] = []
+        self.taught: list[Update] = []
+        self.acknowledged: dict[int, int] = {}
+        self.owing: dict[int, Update] = {}
+        self.wrong: str | None = None
+        self.over: float | None = None
         self.sent = self.begun
         self.lock = threading.Lock()
         self.thread = threading.Thread(target=self.play, daemon=True)
@@ -101,11 +111,10 @@ class Far:
     # --- Its thread
 
     def play(self):
-        left = b''
         while self.over is None:
             try:
                 self.peer.settimeout(max(0.001, self.sent + 3 - time.monotonic()) if self.manners.beats else 0.5)
-                data, moment = self.receive()
+                data, self.moment = stamped(self.peer)
             except socket.timeout:
                 if self.manners.beats and time.monotonic() >= self.sent + 3:
                     self.send(HEARTBEAT)
@@ -115,37 +124,19 @@ class Far:
             if not data:
                 self.over = time.monotonic()
                 return
-            left = self.take(left + data, moment)
-
-    def receive(self):
-        """Returns what comes next, and when it came."""
-        data, notes, _, _ = self.peer.recvmsg(1 << 16, 64)
-        moment = time.monotonic()
-        for level, kind, stamp in notes:
-            if (level, kind) == (socket.SOL_SOCKET, STAMPS):
-                seconds, nanoseconds = struct.unpack('qq', stamp[:16])
-                moment = min(moment, seconds + nanoseconds / 1e9 - time.time() + time.monotonic())
-        return data, moment
-
-    def take(self, data, moment):
-        """Notes the whole messages, answers them, and returns what is left."""
-        for _, class_byte, type_byte, content in framed(data):
-            self.came.append(Came(moment, (class_byte, type_byte), content))
-            self.look_at(class_byte, type_byte, content)
-        self.acknowledge()
-        return data[framed_length(data):]
-
-    def look_at(self, class_byte, type_byte, content):
-        if (class_byte, type_byte) == (0, 0) and self.manners.answer:
-            self.send(self.manners.answer)
-        elif class_byte == TABLE_CLASS:
             try:
-                update = self.lessons.take(type_byte, content)
+                self.hear(data)
             except Misread as error:
                 self.wrong = self.wrong or str(error)
-                return
-            if update is not None:
-                self.owing[update.id] = update
+            self.acknowledge()
+
+    def look_at(self, class_byte, type_byte, data):
+        self.came.append(Came(self.moment, (class_byte, type_byte), data))
+        if (class_byte, type_byte) == (0, 0) and self.manners.answer:
+            self.send(self.manners.answer)
+        elif class_byte == TABLE_CLASS and (update := self.lessons.take(type_byte, data)):
+            self.taught.append(update)
+            self.owing[update.id] = update
 
     def acknowledge(self):
         """Acknowledges the updates that came, by its manners."""
@@ -179,20 +170,11 @@ class Far:
 
     def updates(self, name=None):
         """Returns the updates that came, of a table or of all."""
-        return [one for one in list(self.lessons.updates) if name is None or one.table.name == name.encode()]
+        return [one for one in list(self.taught) if name is None or one.table.name == name.encode()]
 
     def rows(self, name):
         """Returns the latest values and name of each key of a table."""
         return {one.key: (one.values, one.name) for one in self.updates(name)}
-
-    def acks(self):
-        """Returns the acknowledgements that came, as pairs of an id and a number."""
-        found = []
-        for one in list(self.came):
-            if one.kind == (TABLE_CLASS, ACKNOWLEDGEMENT):
-                identifier, place = decoded(one.data, 0)
-                found.append((identifier, int.from_bytes(one.data[place:], 'big')))
-        return found
 
     def gets(self, message, seconds=PATIENCE, times=1):
         """Waits for a control or an error message, and returns when it came."""
@@ -205,7 +187,7 @@ class Far:
         wait(lambda: self.rows(name).get(key, (None,))[0] == values, seconds, 'an update of %s' % name, self.shown)
 
     def gets_ack(self, identifier, number, seconds=PATIENCE):
-        wait(lambda: (identifier, number) in self.acks(), seconds, 'an acknowledgement of %d' % number, self.shown)
+        wait(lambda: (identifier, number) in self.acks, seconds, 'an acknowledgement of %d' % number, self.shown)
 
     def shown(self):
         text = ' '.join('%d.%d' % one.kind for one in self.came[-20:])
@@ -240,13 +222,9 @@ class Far:
 def connected(trial, node, name='b', manners=Manners(), behind=b'', version=VERSION):
     """Returns a far side that connected to a node under a name. `behind` goes out right behind its hello, of which `version` is the
     first line."""
-    peer = kept_open((node.host, node.port))
     asked = time.monotonic()
-    peer.sendall(hello(node.name, name, version) + behind)
-    status = status_of(peer)
-    if status != b'200\n':
-        peer.close()
-        require(False, 'the hello of %s:' % name, status)
+    peer = speaks(trial, node, hello(node.name, name, version) + behind)
+    require((status := status_of(peer)) == b'200\n', 'the hello of %s:' % name, status)
     return trial.closes(Far(peer, manners, asked))
 
 
@@ -262,10 +240,7 @@ class Door:
         self.fars = []
         self.kept = []
         self.port = trial.ports.next()
-        self.listener = socket.socket()
-        self.listener.setsockopt(socket.SOL_SOCKET, socket.SO_REUSEADDR, 1)
-        self.listener.bind(('127.0.0.1', self.port))
-        self.listener.listen(64)
+        self.listener = socket.create_server(('127.0.0.1', self.port), backlog=64)
         self.thread = threading.Thread(target=self.play, daemon=True)
         self.thread.start()
         trial.closes(self)
@@ -319,3 +294,88 @@ class Door:
         except OSError:
             pass
         self.listener.close()
+
+
+# --- A far side that follows words
+
+def read(peer, count):
+    """Returns what comes, up to so many bytes, or the end of the connection."""
+    came = b''
+    while len(came) < count and (part := peer.recv(count - len(came))):
+        came += part
+    return came
+
+
+def played(peer, words, seconds=PATIENCE):
+    """Follows words on a connection in turn, and returns in hexadecimal all that came over it: it sends hexadecimal; `<N` reads N bytes, and
+    `~N` reads N that aren't returned; `end` sends no more; `pause` waits a little; `narrow` has the kernel keep little; `leave` closes the
+    connection, and `reset` resets it. At the end it reads until nothing comes. If the connection fails, the error's name stands at the end."""
+    came = b''
+    try:
+        with peer:
+            peer.settimeout(seconds)
+            for word in words.split():
+                if word[0] in '<~':
+                    part = read(peer, int(word[1:]))
+                    came += part if word[0] == '<' else b''
+                elif word == 'end':
+                    peer.shutdown(socket.SHUT_WR)
+                elif word == 'pause':
+                    time.sleep(0.1)
+                elif word == 'narrow':
+                    peer.setsockopt(socket.SOL_SOCKET, socket.SO_RCVBUF, 4096)
+                elif word in ('leave', 'reset'):
+                    if word == 'reset':
+                        peer.setsockopt(socket.SOL_SOCKET, socket.SO_LINGER, struct.pack('ii', 1, 0))
+                    return came.hex().upper()
+                else:
+                    peer.sendall(bytes.fromhex(word))
+            return (came + read(peer, 1 << 20)).hex().upper()
+    except OSError as error:
+        return came.hex().upper() + ' ' + type(error).__name__
+
+
+class Player(threading.Thread):
+    """A far side that follows words over one connection or, behind each word `again`, over another one. It connects to a port, as soon as
+    somebody listens there and until it is told to give up, or else listens at a port of its own until it has the last connection."""
+
+    def __init__(self, words, port=None):
+        super().__init__(daemon=True)
+        self.parts, self.to = words.split('again'), port
+        self.came: list[str] = []
+        self.gives_up = threading.Event()
+        if port is None:
+            self.listener = socket.create_server(('127.0.0.1', 0))
+            self.listener.settimeout(PATIENCE)
+            self.port = self.listener.getsockname()[1]
+        self.start()
+
+    def run(self):
+        for part in self.parts:
+            try:
+                peer = self.accepted() if self.to is None else self.connected()
+            except OSError as error:
+                self.came = [type(error).__name__]
+                return
+            self.came.append(played(peer, part))
+
+    def accepted(self):
+        """Returns the next connection. After the last one it listens no more."""
+        peer, _ = self.listener.accept()
+        if len(self.came) + 1 == len(self.parts):
+            self.listener.close()
+        return peer
+
+    def connected(self):
+        for _ in range(1000):
+            try:
+                return socket.create_connection(('127.0.0.1', self.to))
+            except ConnectionRefusedError:
+                if self.gives_up.wait(0.01):
+                    break
+        raise TimeoutError
+
+    def result(self):
+        """Returns what came over all connections, joined by `/`."""
+        self.join(2 * PATIENCE)
+        return '/'.join(self.came)

@@ -9,13 +9,6 @@ BEGINNING = 0.5
 
 # A track of a key: when it was asked for and when that was over, and the value that was answered, or None if no answer came.
 Track = namedtuple('Track', 'asked over value')
-# What was seen of a member at a moment: the process, the peers with which it is connected (None if it didn't answer), its counts of
-# faults, how it stands with its resync, its resident memory in KiB and its descriptors.
-Sighting = namedtuple('Sighting', 'moment process peers faults resync memory descriptors')
-# A process of a member: when it was started, and when the next one was, or infinity.
-Process = namedtuple('Process', 'begun over')
-# The end of a resync that a member learned by, and the peer that finished it.
-Lesson = namedtuple('Lesson', 'moment teacher')
 
 
 class Blow:

@@ -1,7 +1,11 @@
 """A trial: what one check starts, waits for and says."""
 
 import re
+import subprocess
 import time
+from typing import Any
+
+from harness.program import short
 
 PATIENCE = 10
 
@@ -22,11 +26,6 @@ def require(holds, what, *shown, wrong=Wrong):
     """Ends the check unless something holds."""
     if not holds:
         raise wrong(' '.join([what] + [short(part) for part in shown]))
-
-
-def short(part):
-    text = part.decode('latin-1') if isinstance(part, bytes) else str(part)
-    return repr(text) if len(text) <= 400 else repr(text[:250]) + ' .. ' + repr(text[-100:])
 
 
 def equal(found, wanted, what):
@@ -63,14 +62,21 @@ class Trial:
     def __init__(self, program, ports):
         self.program = program
         self.ports = ports
-        self.nodes = []
-        self.open = []
+        self.nodes: list[Any] = []
+        self.open: list[Any] = []
 
     def measures_memory(self):
         """Skips the check if the program is built with a sanitizer, which keeps memory that is freed."""
         with open(self.program, 'rb') as file:
             if b'__asan_init' in file.read():
                 raise Skipped('the program is built with a sanitizer')
+
+    def run(self, *words, text=b''):
+        """Returns how a run of the program ended, with what it wrote. It has to end at once."""
+        try:
+            return subprocess.run([self.program, *words], input=text, capture_output=True, timeout=PATIENCE, check=False)
+        except subprocess.TimeoutExpired:
+            raise Wrong('it does not end: %s, with %s' % (' '.join(words), short(text[-200:]))) from None
 
     def closes(self, thing):
         """Notes something that is to be closed at the end, and returns it."""

@@ -23,10 +23,7 @@ class Relay:
         self.port = ports.next()
         self.pairs = []
         self.cuts = 0
-        self.listener = socket.socket()
-        self.listener.setsockopt(socket.SOL_SOCKET, socket.SO_REUSEADDR, 1)
-        self.listener.bind(('127.0.0.1', self.port))
-        self.listener.listen(64)
+        self.listener = socket.create_server(('127.0.0.1', self.port), backlog=64)
         threading.Thread(target=self.accept, daemon=True).start()
 
     def accept(self):

@@ -1,8 +1,11 @@
 """Runs of the program, and what each of them has to keep to, whatever it reads."""
 
+import os
 import re
 import subprocess
 from collections import namedtuple
+
+TOP = os.path.dirname(os.path.dirname(os.path.dirname(os.path.abspath(__file__))))
 
 FAULTS = ('BadInteger', 'SizeLimit', 'BadDefinition', 'UnknownDataType', 'NoTable', 'BadKey', 'BadValue', 'Trailing', 'NoNumber',
           'EmptySlot')
@@ -10,6 +13,27 @@ FAULT_LINE = re.compile(b'fault (%s)\n' % '|'.join(FAULTS).encode())
 REFUSED_LINE = re.compile(rb'(?:scene|line ([1-9][0-9]*)): refused\n')
 
 Ending = namedtuple('Ending', 'status output errors')
+
+
+def path_of_program():
+    """Returns the path of the program to try: the one that PEERS_NODE names, or else the built one. Ends the command if it isn't there."""
+    path = os.path.realpath(os.environ.get('PEERS_NODE') or os.path.join(TOP, 'crates/peers_node/out/peers_node'))
+    if not os.access(path, os.X_OK):
+        raise SystemExit('there is no program at ' + path)
+    return path
+
+
+def node_words(kind, port, turns):
+    """Returns the words of `serve` as `b`, whose peer is `a`, or of `join` the other way round."""
+    name, peer = ('b', 'a') if kind == 'serve' else ('a', 'b')
+    return [kind, '--turns', str(turns), '--port', str(port), '--name', name, '--peer', peer]
+
+
+def processor_seconds(pid):
+    """Returns the processor time of a process, in seconds."""
+    with open('/proc/%d/stat' % pid) as file:
+        words = file.read().rsplit(')', 1)[1].split()
+    return (int(words[11]) + int(words[12])) / os.sysconf('SC_CLK_TCK')
 
 
 class Complaint(Exception):
