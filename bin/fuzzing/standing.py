@@ -34,7 +34,7 @@ USUAL_PATIENCE = 5
 MOST_ACTS = 30
 # Where the log may say a name that a stranger chose.
 CHOSEN = re.compile(rb'(event=hello-refused status=[0-9]+) peer=[!-~]+(?:( address=[!-~]+) (?:called|protocol)=[!-~]+)?|'
-                    rb'(event=unshared peer=[!-~]+ address=[!-~]+) table=[!-~]+|(event=wrong-port port=[a-z]+) peer=[!-~]+')
+                    rb'(event=(?:unshared|passed-over) peer=[!-~]+ address=[!-~]+) table=[!-~]+|(event=wrong-port port=[a-z]+) peer=[!-~]+')
 
 ports = None
 

@@ -219,11 +219,11 @@ class Far(Heard):
         self.peer.close()
 
 
-def connected(trial, node, name='b', manners=Manners(), behind=b'', version=VERSION):
+def connected(trial, node, name='b', manners=Manners(), behind=b'', version=VERSION, pid=1):
     """Returns a far side that connected to a node under a name. `behind` goes out right behind its hello, of which `version` is the
-    first line."""
+    first line, and which says `pid`."""
     asked = time.monotonic()
-    peer = speaks(trial, node, hello(node.name, name, version) + behind)
+    peer = speaks(trial, node, hello(node.name, name, version, pid) + behind)
     require((status := status_of(peer)) == b'200\n', 'the hello of %s:' % name, status)
     return trial.closes(Far(peer, manners, asked))
 

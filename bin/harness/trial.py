@@ -1,7 +1,10 @@
 """A trial: what one check starts, waits for and says."""
 
+import os
 import re
+import shutil
 import subprocess
+import tempfile
 import time
 from typing import Any
 
@@ -89,6 +92,20 @@ class Trial:
             thing.close()
         wrongs = ['a lesson is wrong: ' + thing.wrong for thing in self.open if getattr(thing, 'wrong', None)]
         return wrongs + [wrong for node in self.nodes for wrong in node.ended()]
+
+
+class Folder:
+    """A folder of its own, whose path is short enough for the file of a socket. It is removed at the end of the trial."""
+
+    def __init__(self, trial):
+        self.name = tempfile.mkdtemp(prefix='n', dir='/tmp')
+        trial.closes(self)
+
+    def path(self, name='s'):
+        return os.path.join(self.name, name)
+
+    def close(self):
+        shutil.rmtree(self.name, ignore_errors=True)
 
 
 CHECKS = {}

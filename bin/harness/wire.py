@@ -82,8 +82,8 @@ def framed(stream):
         place = after
 
 
-def hello(to, name, version=VERSION):
-    return b'%s\n%s\n%s 1 1\n' % (version, to.encode(), name.encode())
+def hello(to, name, version=VERSION, pid=1):
+    return b'%s\n%s\n%s %d 1\n' % (version, to.encode(), name.encode(), pid)
 
 
 # --- Definitions and updates, written

@@ -1,14 +1,12 @@
 """A node beside a real HAProxy, if one is installed."""
 
-import shutil
-import tempfile
 import time
 
 from harness.far import kept_open, status_of
 from harness.haproxy import HAProxy, installed
 from harness.members import NodeMember
 from harness.node import fields
-from harness.trial import Skipped, check, equal, require, wait
+from harness.trial import Folder, Skipped, check, equal, require, wait
 from harness.wire import OLDER_VERSION, hello
 
 
@@ -20,10 +18,9 @@ class Pair:
         binary = installed()
         if binary is None:
             raise Skipped('no haproxy')
-        self.folder = tempfile.mkdtemp(prefix='staying.')
-        trial.closes(self)
-        self.balancer = trial.closes(HAProxy('h', self.folder, trial.ports, binary))
-        self.node = trial.closes(NodeMember('n', self.folder, trial))
+        folder = Folder(trial).name
+        self.balancer = trial.closes(HAProxy('h', folder, trial.ports, binary))
+        self.node = trial.closes(NodeMember('n', folder, trial))
         nowhere = trial.ports.next()
         self.known = (('h', self.balancer.port), ('n', self.node.port if to_node else nowhere))
         self.configure(changes)
@@ -42,9 +39,6 @@ class Pair:
             file.seek(0)
             file.truncate()
             file.write(text)
-
-    def close(self):
-        shutil.rmtree(self.folder, ignore_errors=True)
 
     def line(self):
         """Returns what the node says of its peer."""

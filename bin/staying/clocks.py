@@ -9,17 +9,16 @@ import shutil
 import signal
 import struct
 import subprocess
-import tempfile
 import threading
 import time
 
 from harness.far import Manners, connected, kept_open, status_of
 from harness.node import T1, Admin
-from harness.trial import Skipped, check, equal, require, wait
+from harness.trial import Folder, Skipped, check, equal, require, wait
 from harness.wire import CONFIRMED, FINISHED, HEARTBEAT, PARTIAL, REQUEST, acknowledgement, definition, hello, table, update
 from staying.logs import refused
 from staying.measures import lag_of, lags
-from staying.ports import Folder, Metered
+from staying.ports import Metered
 from staying.requests import answer_to
 from staying.resyncs import long_rows, tracked
 from staying.sessions import KEEPS_QUIET, up_to_date, with_b
@@ -34,10 +33,9 @@ SILENT = Manners(beats=False)
 class Clock:
     """A clock, of which a node learns by its environment."""
 
-    def __init__(self):
-        self.directory = tempfile.TemporaryDirectory()
-        self.name = os.path.join(self.directory.name, 'milliseconds')
-        self.library = os.path.join(self.directory.name, 'clock.so')
+    def __init__(self, trial):
+        folder = Folder(trial)
+        self.name, self.library = folder.path('milliseconds'), folder.path('clock.so')
         source = os.path.join(os.path.dirname(os.path.abspath(__file__)), 'clock.c')
         subprocess.run(['cc', '-shared', '-fPIC', '-O1', '-o', self.library, source], check=True)
         with open(self.name, 'w+b') as file:
@@ -49,7 +47,6 @@ class Clock:
 
     def close(self):
         self.there.close()
-        self.directory.cleanup()
 
 
 class Clocked(Metered):
@@ -59,7 +56,7 @@ class Clocked(Metered):
         if shutil.which('cc') is None:
             raise Skipped('there is no cc')
         super().__init__(trial, **other)
-        self.clock = trial.closes(Clock())
+        self.clock = trial.closes(Clock(trial))
         self.clock.set(BEGIN)
         self.environment = {**os.environ, 'LD_PRELOAD': self.clock.library, 'CLOCK': self.clock.name}
 

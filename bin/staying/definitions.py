@@ -8,6 +8,7 @@ from harness.node import Node, fields
 from harness.trial import check, equal, require, wait
 from harness.wire import DEFINITION, FINISHED, REQUEST, TABLE_CLASS, definition, encoded, message, table, update
 from staying.balancers import Pair
+from staying.sessions import asking
 
 TABLES = ('table 1 kinds integer 4 0 gpc0', 'table 2 lengths string 33 0 gpc0', 'table 3 stores integer 4 0 gpc0',
           'table 4 periods integer 4 0 gpc0 http_req_rate:20000', 'table 5 further integer 4 0 gpc0', 'table 6 alike integer 4 0 gpc0')
@@ -25,7 +26,6 @@ SIDES = {
     'periods': ('period', 'http_req_rate(10s)', 'http_req_rate(20s)'),
     'further': ('types', 'store gpc0,http_req_rate(10s) and data types from 20 up', 'store gpc0'),
 }
-KEEPS_QUIET = Manners(answer=b'')
 
 
 def lines(node, event, peer='b'):
@@ -117,14 +117,14 @@ def counted(node, what, count, peer='b'):
 @check
 def lacking_tables(trial):
     """tables that this node lacks are said once, and its own that a peer didn't define 10 s after its first, if it has taught all it has"""
-    node = Node(trial, tables=TABLES, peers=('b', 'c')).start()
-    far = connected(trial, node, manners=KEEPS_QUIET)
-    far.gets(REQUEST, 2)
+    node, far = asking(trial, tables=TABLES, peers=('b', 'c', 'd'))
     define(far, ALIKE, table(17, 'other'), table(18, 'x\x01 y'))
     begun = time.monotonic()
     equal(tables_in(says(node, 'unshared', 2)), ['other', '0x78012079'], 'tables that this node lacks')
     counted(node, 'unshared', 2)
     far.send(FINISHED)
+    # Its resync is incomplete, so the next peer is asked.
+    connected(trial, node, name='d').gets(REQUEST, 2)
     wait(lambda: node.is_up_to_date(), 3, 'the node is up to date', node.said)
     # One that isn't asked defines a table only with its first row to push.
     other = connected(trial, node, name='c')
@@ -154,9 +154,7 @@ def lacking_tables(trial):
 @check
 def no_table_defined(trial):
     """of a peer that has taught all it has and has defined no table, each table of this node is said to be undefined, 10 s after that end"""
-    node = Node(trial, tables=TABLES).start()
-    far = connected(trial, node, manners=KEEPS_QUIET)
-    far.gets(REQUEST, 2)
+    node, far = asking(trial, tables=TABLES)
     begun = time.monotonic()
     far.send(FINISHED)
     wait(lambda: node.is_up_to_date(), 3, 'the node is up to date', node.said)
@@ -177,9 +175,7 @@ def many_tables_differ(trial):
     """of 12 tables that differ and 12 that one side lacks, each is named once within 10 s, though only five lines a second are written"""
     names = {first: ['%s%02d' % (first, number) for number in range(12)] for first in 'dot'}
     tables = ['table %d %s integer 4 0 gpc0 http_req_rate:20000' % (at, name) for at, name in enumerate(names['d'] + names['o'], 1)]
-    node = Node(trial, tables=tables).start()
-    far = connected(trial, node, manners=KEEPS_QUIET)
-    far.gets(REQUEST, 2)
+    node, far = asking(trial, tables=tables)
     define(far, *(table(at, name, types=('gpc0', 'http_req_rate'), periods=(10000,)) for at, name in enumerate(names['d'] + names['t'], 101)))
     begun = time.monotonic()
     far.send(FINISHED)

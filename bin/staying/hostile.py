@@ -13,7 +13,7 @@ from harness.trial import between, check, equal, require, wait
 from harness.wire import (CONFIRMED, DEFINITION, HEARTBEAT, OLDER_VERSION, PROTOCOL_ERROR, REQUEST, SIZE_LIMIT, TABLE_CLASS,
                           Heard, acknowledgement, definition, encoded, hello, message, switch, table, update)
 from staying.resyncs import long_rows
-from staying.sessions import T1_THERE, beats, node_of_b, up_to_date, with_b
+from staying.sessions import T1_THERE, beats, node_of_b, up_to_date, with_b, with_c
 
 ST = 'table 2 st string 33 0 server_key'
 ST_THERE = table(78, 'st', 'string', types=('server_key',))
@@ -78,7 +78,7 @@ def other_definitions(trial):
 
 @check
 def log_of_tables_passed_over(trial):
-    """standard error says once a connection that tables are passed over, and names none of them"""
+    """standard error says once a connection that tables are passed over, and names the first of them, in hexadecimal if it would read as more"""
     node = node_of_b(trial)
     outside = definition(table(93, '#quiet')) + wide(91, b'#strange', 1 << 2 | 1 << 20, encoded(20)) + wide(92, b'#stranger', 1 << 19, b'')
     for times in (1, 2):
@@ -90,8 +90,10 @@ def log_of_tables_passed_over(trial):
             time.sleep(1.2)
         far.close()
         node.logs('ended', times, peer='b', end='end')
-        equal(len(node.logged('passed-over', peer='b')), times, 'lines about tables')
-    require(b'#' not in node.said(), 'no table is named', node.said())
+        said = node.logged('passed-over', peer='b')
+        equal([each.keys['table'] for each in said], ['0x23737472616E6765'] * times, 'lines about tables')
+        require('data types from 20 up' in said[-1].sentence, 'why:', said[-1].sentence)
+    require(b'#' not in node.said(), 'no table is named as it came', node.said())
 
 
 @check
@@ -248,7 +250,7 @@ def hello_in_pieces(trial):
 
 @check
 def cut_hellos(trial):
-    """a hello that stays cut is closed after 5 s, and one that ends early hurts nobody"""
+    """a hello that stays cut is answered 501 and closed after 5 s, and one that ends early hurts nobody"""
     node = node_of_b(trial)
     whole = hello('n', 'b')
     for length in range(0, len(whole), 3):
@@ -256,7 +258,8 @@ def cut_hellos(trial):
         peer.close()
     peer = speaks(trial, node, whole[:10])
     begun = time.monotonic()
-    require(is_closed(peer, 8), 'a cut hello is open after 8 s')
+    equal(status_of(peer, 8), b'501\n', 'the status')
+    require(is_closed(peer, 3), 'a cut hello is open after 8 s')
     between(4.5, time.monotonic() - begun, 6.5, 'seconds until it is closed')
     still_learns(node, connected(trial, node), 1)
 
@@ -280,9 +283,7 @@ def silent_connections(trial):
 @check
 def reads_slowly(trial):
     """a peer that reads a lesson too slowly ends its own session 10 s after the lesson began, though it goes on to read"""
-    node = node_of_b(trial, peers=('b', 'c'), tables=('table 1 long string 8192 0 gpc0',))
-    c = connected(trial, node, 'c')
-    up_to_date(node)
+    node, c = with_c(trial, tables=('table 1 long string 8192 0 gpc0',))
     long_rows(node, 600)
     peer = speaks(trial, node, hello('n', 'b') + REQUEST, 2048)
     equal(status_of(peer), b'200\n', 'the status')
@@ -321,9 +322,7 @@ def leaves_under_a_flood(trial):
 @check
 def deaf(trial):
     """a peer that doesn't read ends its own session, and delays nobody else's, nor a change of the table that it is being taught"""
-    node = node_of_b(trial, peers=('b', 'c'), tables=('table 1 long string 8192 0 gpc0', T1.replace('1 t1', '2 t1')))
-    c = connected(trial, node, 'c')
-    up_to_date(node)
+    node, c = with_c(trial, tables=('table 1 long string 8192 0 gpc0', T1.replace('1 t1', '2 t1')))
     long_rows(node, 600)
     peer = speaks(trial, node, hello('n', 'b') + REQUEST, 2048)
     equal(status_of(peer), b'200\n', 'the status')
@@ -361,9 +360,7 @@ def sends_on(far, data):
 @check
 def sends_without_pause(trial):
     """a peer that sends without pause gets a heartbeat every 3.0 to 3.3 s, a table that it doesn't acknowledge is left in time, and others are served"""
-    node = node_of_b(trial, peers=('b', 'c'), tables=(T1, 'table 2 t2 integer 4 0 gpc0'))
-    c = connected(trial, node, 'c')
-    up_to_date(node)
+    node, c = with_c(trial, tables=(T1, 'table 2 t2 integer 4 0 gpc0'))
     far = connected(trial, node, manners=Manners(beats=False, passed=('t1',)))
     time.sleep(0.5)
     sends_on(far, message(5, 128, bytes(1000)) * 50)
@@ -425,9 +422,7 @@ class Drain(Heard):
 @check
 def drains_slowly(trial):
     """a table that a peer doesn't acknowledge is left also while each lesson takes it seconds to read, and its session goes on"""
-    node = node_of_b(trial, peers=('b', 'c'), tables=(T1, 'table 2 long string 8192 0 gpc0'))
-    c = connected(trial, node, 'c')
-    up_to_date(node)
+    node, c = with_c(trial, tables=(T1, 'table 2 long string 8192 0 gpc0'))
     node.ask('track t1 7 add gpc0 1')
     long_rows(node, 5 * 512)
     begun, drain = time.monotonic(), Drain(trial, node, 1_200_000)

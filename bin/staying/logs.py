@@ -10,10 +10,10 @@ from datetime import datetime, timezone
 
 from harness.far import Door, Manners, connected, is_closed, speaks, status_of
 from harness.node import T1, Node, address
-from harness.trial import Skipped, between, check, equal, matches, require, wait
+from harness.tables import FIRST_MOMENT
+from harness.trial import Folder, Skipped, between, check, equal, matches, require, wait
 from harness.wire import FINISHED, PROTOCOL_ERROR, REQUEST, definition, hello, switch, update
-from staying.ports import Folder
-from staying.sessions import KEEPS_QUIET, T1_THERE, node_of_b, up_to_date, with_b
+from staying.sessions import T1_THERE, asking, node_of_b, up_to_date, with_b
 
 
 def events(node, *left_out):
@@ -42,7 +42,9 @@ def log_of_a_start(trial):
     said = datetime.strptime(start.time, '%Y-%m-%dT%H:%M:%S.%fZ').replace(tzinfo=timezone.utc)
     between(-5, (datetime.now(timezone.utc) - said).total_seconds(), 10, 'seconds since the start by its line')
     node.stop()
-    equal(events(node), ['start', 'listening', 'listening', 'stop'], 'events')
+    equal(events(node), ['start', 'listening', 'listening', 'stop', 'stopped'], 'events')
+    stopped, = node.logged('stopped')
+    equal((stopped.level, stopped.keys['cut']), ('info', '0'), 'the last line')
 
 
 @check
@@ -65,9 +67,7 @@ def log_of_warnings(trial):
 @check
 def log(trial):
     """the log says each change of a session: its begin, who was asked, the ends of resyncs with their rows and ms, and its end"""
-    node = node_of_b(trial)
-    far = connected(trial, node, manners=KEEPS_QUIET)
-    far.gets(REQUEST, 2)
+    node, far = asking(trial)
     far.send(definition(T1_THERE) + update(T1_THERE, 1, 7, (5,)) + update(T1_THERE, 2, 8, (5,)))
     time.sleep(0.2)
     far.send(FINISHED)
@@ -175,6 +175,7 @@ def log_of_a_peer_that_is_not_there(trial):
     equal({said.keys['address'] for said in (first, second)}, {address(port)}, 'addresses')
     equal((first.level, second.level), ('info', 'warn'), 'levels')
     require('Connection refused' in second.sentence, 'the reason:', second.sentence)
+    require('"peer b .." has another port' in second.sentence, 'what repairs it:', second.sentence)
 
 
 def full_port(trial):
@@ -263,13 +264,14 @@ def log_of_a_peer_that_is_another_server(trial):
         door.tried(2, 6)
         time.sleep(0.5)
         equal((len(node.logged('unreachable')), node.logged('ended')), (1, []), 'lines about the connections')
+        between(1500, int(node.peer('b')['since']), node.moment() - FIRST_MOMENT, 'ms since the node began, whatever attempts failed')
 
 
 @check
 def log_of_an_end(trial):
     """a session that is closed or reset ends with a line of level info, one that its peer ends by an error message with a warning; each says why"""
     node = node_of_b(trial)
-    for times, (does, end, level, words) in enumerate(((lambda far: far.close(), 'end', 'info', 'was closed'),
+    for times, (does, end, level, words) in enumerate(((lambda far: far.close(), 'end', 'info', 'b has closed the session'),
                                                        (lambda far: far.reset(), 'device', 'info', 'Connection reset by peer'),
                                                        (lambda far: far.send(PROTOCOL_ERROR), 'error', 'warn', 'by an error message')), 1):
         far = connected(trial, node)
@@ -278,6 +280,21 @@ def log_of_an_end(trial):
         does(far)
         said = node.logs('ended', times, peer='b')[-1]
         equal((said.keys['end'], said.level, words in said.sentence), (end, level, True), 'the end: ' + said.sentence)
+
+
+@check
+def log_of_short_sessions(trial):
+    """the third session that a peer closes soon after it began is followed by a warning, which says what may be behind it, once"""
+    node = node_of_b(trial)
+    for times in range(1, 6):
+        far = connected(trial, node)
+        node.logs('connected', times, peer='b')
+        (far.reset if times == 2 else far.close)()
+        node.logs('ended', times, peer='b')
+        time.sleep(0.3)
+        equal(len(node.logged('short-sessions')), int(times > 2), 'lines about short sessions after %d' % times)
+    said, = node.logged('short-sessions', peer='b')
+    equal((said.level, said.keys['count'], 'by the name n there' in said.sentence), ('warn', '3', True), 'the line: ' + said.sentence)
 
 
 @check
@@ -311,7 +328,23 @@ def log_of_a_hello_refused(trial):
     node.shows('digbaro_hellos_refused_total{status="504"}', 6)
     node.shows('digbaro_hellos_refused_total{status="503"}', 2)
     connected(trial, node)
-    equal(node.peer('b')['last_error'], '-', 'the last error of a session')
+    wait(lambda: node.peer('b')['last_error'] == '-', 2, 'a session has no last error', lambda: node.peer('b'))
+
+
+@check
+def log_of_a_hello_that_never_comes(trial):
+    """a connection on which nothing comes, or half a hello, is answered 501 after 5 s; each is said once for a host, and counted"""
+    node = node_of_b(trial)
+    peers = [speaks(trial, node, data) for data in (b'', b'', b'HAProxyS 2.1\n', b'x' * 300)]
+    equal([status_of(peer, 8) for peer in peers], [b'501\n'] * 4, 'the statuses')
+    node.logs('hello-refused', 2, status=501)
+    time.sleep(0.3)
+    said = node.logged('hello-refused')
+    equal(sorted(words in each.sentence for each in said for words in ('sent nothing for 5 s', 'sent no whole hello within 5 s')),
+          [False, False, True, True], 'the lines: %s' % [each.sentence for each in said])
+    for each in said:
+        matches(r'127\.0\.0\.1:[0-9]+', each.keys['address'], 'the address')
+    node.shows('digbaro_hellos_refused_total{status="501"}', 4)
 
 
 @check
@@ -348,6 +381,8 @@ def log_of_a_hello_at_another_port(trial):
         for _ in range(2):
             peer = speaks(trial, node, hello('n', 'b'), port=port)
             require(is_closed(peer, 5), 'the connection is closed')
+        for _ in range(5):
+            speaks(trial, node, hello('n', 'b'), port=port).close()
         said, = node.logs('wrong-port', port=name, peer='b')
         equal((said.level, '"listen %s"' % address(node.port) in said.sentence), ('warn', True), 'the line: ' + said.sentence)
         matches(r'127\.0\.0\.1:[0-9]+', said.keys['address'], 'the address')
@@ -410,14 +445,13 @@ def strangers_named_later(trial):
 
 def full_pipe(trial):
     """Returns the path of a pipe that is full and that nobody reads, and the end at which it could be read."""
-    path = os.path.join('/tmp', 'log-%d-%d' % (os.getpid(), trial.ports.next()))
+    path = Folder(trial).path()
     os.mkfifo(path)
-    pipe = os.open(path, os.O_RDWR | os.O_NONBLOCK)
-    try:
+    pipe = trial.closes(open(os.open(path, os.O_RDWR | os.O_NONBLOCK), 'rb', buffering=0))
+    with contextlib.suppress(BlockingIOError):
         while True:
-            os.write(pipe, b'x' * 4096)
-    except BlockingIOError:
-        return path, pipe
+            os.write(pipe.fileno(), b'x' * 4096)
+    return path, pipe
 
 
 def written_to(trial, target, **other):
@@ -430,17 +464,13 @@ def written_to(trial, target, **other):
 @check
 def blocked_log(trial):
     """a standard error that nobody reads holds nothing up: requests, sessions and the stop"""
-    path, pipe = full_pipe(trial)
-    try:
-        node = written_to(trial, '2>' + path)
-        far = connected(trial, node)
-        up_to_date(node)
-        equal(node.ask('track t1 7 add gpc0 1').split(' ')[0], 'reply', 'the answer')
-        far.gets_row('t1', 7, (1,))
-        require(node.stop() < 5, 'the node stops within 5 s')
-    finally:
-        os.close(pipe)
-        os.remove(path)
+    path, _ = full_pipe(trial)
+    node = written_to(trial, '2>' + path)
+    far = connected(trial, node)
+    up_to_date(node)
+    equal(node.ask('track t1 7 add gpc0 1').split(' ')[0], 'reply', 'the answer')
+    far.gets_row('t1', 7, (1,))
+    require(node.stop() < 5, 'the node stops within 5 s')
 
 
 @check
@@ -449,25 +479,21 @@ def log_read_late(trial):
     path, pipe = full_pipe(trial)
     # Long names make long lines.
     names = ['p%02d%s' % (number, 'x' * 200) for number in range(15)]
-    try:
-        node = written_to(trial, '2>' + path, peers=names)
-        for number in range(400):
-            connected(trial, node, names[number % 15]).close()
-            if number % 15 == 0 and node.metric('digbaro_log_lines_dropped_total') > 0:
-                break
-        require(node.metric('digbaro_log_lines_dropped_total') > 0, 'lines are dropped')
-        came = b''
-        latest = time.monotonic() + 5
-        while b'event=omitted count=' not in came and time.monotonic() < latest:
-            try:
-                came += os.read(pipe, 1 << 16)
-            except BlockingIOError:
-                connected(trial, node, names[0]).close()
-        require(b'event=start' in came and b'event=omitted count=' in came, 'the log, once it is read:', came[-600:])
-        node.stop()
-    finally:
-        os.close(pipe)
-        os.remove(path)
+    node = written_to(trial, '2>' + path, peers=names)
+    for number in range(400):
+        connected(trial, node, names[number % 15]).close()
+        if number % 15 == 0 and node.metric('digbaro_log_lines_dropped_total') > 0:
+            break
+    require(node.metric('digbaro_log_lines_dropped_total') > 0, 'lines are dropped')
+    came = b''
+    latest = time.monotonic() + 5
+    while b'event=omitted count=' not in came and time.monotonic() < latest:
+        try:
+            came += os.read(pipe.fileno(), 1 << 16)
+        except BlockingIOError:
+            connected(trial, node, names[0]).close()
+    require(b'event=start' in came and b'event=omitted count=' in came, 'the log, once it is read:', came[-600:])
+    node.stop()
 
 
 @check

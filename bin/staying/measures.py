@@ -3,16 +3,15 @@
 import os
 import shutil
 import subprocess
-import tempfile
 import time
 
 from harness.far import Manners, connected, speaks, status_of
 from harness.node import T1, Node
-from harness.trial import Skipped, between, check, equal, matches, require, wait
+from harness.trial import Folder, Skipped, between, check, equal, matches, require, wait
 from harness.wire import CONFIRMED, FINISHED, REQUEST, acknowledgement, definition, hello, update
 from staying.logs import refused
 from staying.resyncs import tracked
-from staying.sessions import T1_THERE, node_of_b, node_with_door, up_to_date, with_b
+from staying.sessions import T1_THERE, asking, node_of_b, node_with_door, up_to_date, with_b
 
 TWO = (T1, 'table 2 t2 integer 4 0 gpc0')
 MUTE = Manners(acks='none')
@@ -69,9 +68,7 @@ def lag(trial):
 @check
 def lag_of_rows_learned(trial):
     """rows of another peer are no lag, but while a resync teaches them"""
-    node = node_of_b(trial, peers=('b', 'c', 'd'), tables=(T1,))
-    far = connected(trial, node, manners=Manners(answer=b''))
-    far.gets(REQUEST, 2)
+    node, far = asking(trial, peers=('b', 'c', 'd'), tables=(T1,))
     far.send(definition(T1_THERE) + b''.join(update(T1_THERE, number, number, (1,)) for number in range(1, 6)) + FINISHED)
     up_to_date(node)
     equal(len(node.ask('show rows')), 5, 'rows learned')
@@ -153,9 +150,7 @@ def lag_of_rows_that_ended(trial):
 @check
 def rows_displaced(trial):
     """rows that a full table drops for new ones are counted, whoever brings these"""
-    node = node_of_b(trial, tables=TWO, more=('size 1 2', 'size 2 1', 'nopurge 2'))
-    far = connected(trial, node, manners=Manners(answer=b''))
-    far.gets(REQUEST, 2)
+    node, far = asking(trial, tables=TWO, more=('size 1 2', 'size 2 1', 'nopurge 2'))
     far.send(definition(T1_THERE) + update(T1_THERE, 1, 21, (1,)) + update(T1_THERE, 2, 22, (1,)) + update(T1_THERE, 3, 23, (1,)) + FINISHED)
     up_to_date(node)
     node.shows('digbaro_rows_displaced_total{name="t1"}', 1)
@@ -221,11 +216,10 @@ def process_metrics(trial):
     """the metrics of the process are what the system says of it"""
     begun = time.time()
     node = Node(trial, peers=(), tables=(T1,))
-    with tempfile.TemporaryDirectory() as folder:
-        # The system says the program's name between parentheses, whatever it has in it.
-        node.program = os.path.join(folder, 'a) R (b')
-        os.symlink(trial.program, node.program)
-        node.start()
+    # The system says the program's name between parentheses, whatever it has in it.
+    node.program = Folder(trial).path('a) R (b')
+    os.symlink(trial.program, node.program)
+    node.start()
     values = node.metrics()
     between(0.5, float(values['process_resident_memory_bytes']) / 2 ** 20 / node.memory(), 2, 'the memory, as a share of what the system says')
     others = [node.admin() for _ in range(3)]

@@ -3,12 +3,10 @@ are at their limit, or that was suspended."""
 
 import contextlib
 import os
-import shutil
 import signal
 import socket
 import stat
 import subprocess
-import tempfile
 import threading
 import time
 
@@ -16,25 +14,11 @@ from harness.far import Door, Far, Manners, connected, kept_open, speaks, status
 from harness.node import T1, Admin, Node, address
 from harness.ports import held
 from harness.program import processor_seconds
-from harness.trial import PATIENCE, Late, Skipped, between, check, equal, matches, require, wait
+from harness.trial import PATIENCE, Folder, Late, Skipped, between, check, equal, matches, require, wait
 from harness.wire import REQUEST, hello
 from staying.requests import GOOD, PAGES, alone, is_page, is_untouched, with_body
 from staying.resyncs import long_rows
 from staying.sessions import up_to_date
-
-
-class Folder:
-    """A folder of its own for the files of sockets, whose paths are short."""
-
-    def __init__(self, trial):
-        self.name = tempfile.mkdtemp(prefix='n', dir='/tmp')
-        trial.closes(self)
-
-    def path(self, name='s'):
-        return os.path.join(self.name, name)
-
-    def close(self):
-        shutil.rmtree(self.name, ignore_errors=True)
 
 
 class Metered(Node):

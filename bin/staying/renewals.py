@@ -5,13 +5,12 @@ import os
 import re
 import socket
 import struct
-import tempfile
 import time
 
 from checks.refusing import symbols
 from harness.far import Door, Far, connected, speaks, status_of
 from harness.node import T1, Node, address
-from harness.trial import PATIENCE, Skipped, between, check, equal, require, wait
+from harness.trial import PATIENCE, Folder, Skipped, between, check, equal, require, wait
 from harness.wire import REQUEST, definition, hello, table
 from staying.clocks import SOON, Clocked, brings_on
 from staying.lacking import SEVEN, Refuser, at_rest, attempted
@@ -57,29 +56,24 @@ def places_of_number(data):
     return found
 
 
-class Copy:
-    """A copy of a program, with the lower number."""
-
-    def __init__(self, program):
-        with open(program, 'rb') as file:
-            data = file.read()
-        places = places_of_number(data)
-        if len(places) != 1:
-            raise Skipped('the program has the number at %d places that are known' % len(places))
-        (at, some), = places
-        self.directory = tempfile.TemporaryDirectory()
-        self.name = os.path.join(self.directory.name, 'peers_node')
-        with open(self.name, 'wb', opener=lambda name, flags: os.open(name, flags, 0o700)) as file:
-            file.write(data[:at] + some + data[at + len(some):])
-
-    def close(self):
-        self.directory.cleanup()
+def copied(trial):
+    """Returns the path of a copy of the program, with the lower number."""
+    with open(trial.program, 'rb') as file:
+        data = file.read()
+    places = places_of_number(data)
+    if len(places) != 1:
+        raise Skipped('the program has the number at %d places that are known' % len(places))
+    (at, some), = places
+    path = Folder(trial).path('peers_node')
+    with open(path, 'wb', opener=lambda name, flags: os.open(name, flags, 0o700)) as file:
+        file.write(data[:at] + some + data[at + len(some):])
+    return path
 
 
 def of_few_numbers(trial, of=Node, **other):
     """Returns such a node, whose peer b has connected."""
     node = of(trial, tables=(T1, T2), **other)
-    node.program = trial.closes(Copy(trial.program)).name
+    node.program = copied(trial)
     node.start()
     far = connected(trial, node)
     up_to_date(node)

@@ -4,9 +4,7 @@ import contextlib
 import http.client as http_client
 import os
 import re
-import shutil
 import subprocess
-import tempfile
 import threading
 import time
 from typing import Any
@@ -14,17 +12,17 @@ from typing import Any
 from harness.far import Manners, connected, speaks
 from harness.node import T1, Admin, Node, address, reply
 from harness.tables import FIRST_MOMENT
-from harness.trial import PATIENCE, Skipped, between, check, equal, matches, require, wait
+from harness.trial import PATIENCE, Folder, Skipped, between, check, equal, matches, require, wait
 from harness.wire import CONFIRMED, FINISHED, REQUEST, acknowledgement, definition, hello, table, update
 from staying.resyncs import long_rows, tracked
-from staying.sessions import node_of_b, up_to_date, with_b
+from staying.sessions import node_of_b, up_to_date, with_b, with_c
 
 KINDS = ('table 1 t1 integer 4 30000 gpc0', 'table 2 v4 ipv4 4 0 gpc0', 'table 3 v6 ipv6 16 0 gpc0', 'table 4 st string 9 0 gpc0 server_key',
          'table 5 bin binary 3 0 bytes_in_cnt', 'table 6 r integer 4 0 gpc0_rate:10000')
 
 
 # The man page of `run`.
-MANUAL = os.path.join(os.path.dirname(os.path.abspath(__file__)), '../../docs/peers_node.8')
+UNIT = os.path.join(os.path.dirname(os.path.abspath(__file__)), '../../dist/digbaro.service')
 
 
 def alone(trial, tables=KINDS, **other):
@@ -575,10 +573,8 @@ def tracked_until_it_stops(node, first, found):
 def stop_loses_nothing(trial):
     """each change that was answered is at the peers when the node has ended, also while clients go on tracking"""
     for _ in range(3):
-        node = node_of_b(trial, tables=(T1,))
+        node, far = with_b(trial, tables=(T1,))
         found: list[int] = []
-        far = connected(trial, node)
-        up_to_date(node)
         threads = [threading.Thread(target=tracked_until_it_stops, args=(node, place * 1_000_000, found)) for place in range(8)]
         for thread in threads:
             thread.start()
@@ -595,9 +591,7 @@ def stop_loses_nothing(trial):
 @check
 def stop_of_a_young_session(trial):
     """a session that has just begun teaches what was answered too before it ends"""
-    node = node_of_b(trial, peers=('b', 'c'), tables=(T1,))
-    connected(trial, node, 'c')
-    up_to_date(node)
+    node, _ = with_c(trial, tables=(T1,))
     admin = node.admin()
     far = connected(trial, node)
     wait(lambda: admin.ask('show peers')[1].startswith('peer b state=ready '), 1, 'the session begins', pause=0)
@@ -642,25 +636,17 @@ def stop_waits_3_seconds(trial):
 
 @check
 def stopped_by_a_unit(trial):
-    """the lines for a unit in the man page stop a node by its socket, and wait for its end"""
+    """the unit stops a node by its socket, and waits for its end"""
     perl = '/usr/bin/perl'
     if not os.path.exists(perl) or subprocess.run([perl, '-MIO::Socket::UNIX', '-e', '1'], stderr=subprocess.DEVNULL, check=False).returncode != 0:
         raise Skipped('there is no perl with IO::Socket::UNIX')
-    folder = tempfile.mkdtemp(prefix='n', dir='/tmp')
-    try:
-        ends_by_its_socket(trial, perl, os.path.join(folder, 's'))
-    finally:
-        shutil.rmtree(folder, ignore_errors=True)
-
-
-def ends_by_its_socket(trial, perl, path):
-    """Has the lines of the man page stop a node with a socket at this path."""
+    path = Folder(trial).path()
     node, far = with_b(trial, tables=(T1,), more=('admin unix:' + path,))
     tracked(node, 't1', range(1000))
-    with open(MANUAL) as file:
-        text = file.read().replace('\\e\n', ' ')
-    script, = re.findall(r"^ExecStop=/usr/bin/perl -l -MIO::Socket::UNIX -e '([^']*)'$", text, re.M)
-    require('/run/digbaro/admin.sock' in script, 'the socket in the man page:', script)
+    with open(UNIT) as file:
+        text = file.read().replace('\\\n', ' ')
+    script, = re.findall(r"^ExecStop=-/usr/bin/perl -l -MIO::Socket::UNIX -e '([^']*)'$", text, re.M)
+    require('/run/digbaro/admin.sock' in script, 'the socket in the unit:', script)
     words = [perl, '-l', '-MIO::Socket::UNIX', '-e', script.replace('/run/digbaro/admin.sock', path)]
     stopper = subprocess.Popen(words, env={**os.environ, 'MAINPID': str(node.child.pid)})
     equal(node.child.wait(5), 0, 'the status of the node')
@@ -671,9 +657,7 @@ def ends_by_its_socket(trial, perl, path):
 @check
 def stops_beside_the_deaf(trial):
     """stop ends a node also while a client and a peer don't read"""
-    node = node_of_b(trial, peers=('b', 'c'), tables=('table 1 long string 8192 0 gpc0',))
-    connected(trial, node, 'c')
-    up_to_date(node)
+    node, _ = with_c(trial, tables=('table 1 long string 8192 0 gpc0',))
     long_rows(node, 512)
     speaks(trial, node, hello('n', 'b') + REQUEST, 2048)
     client = node.admin()

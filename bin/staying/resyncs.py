@@ -7,7 +7,7 @@ from harness.far import Far, Manners, connected
 from harness.node import T1
 from harness.trial import between, check, equal, require, wait
 from harness.wire import CONFIRMED, FINISHED, PARTIAL, REQUEST, acknowledgement, definition, table, update
-from staying.sessions import KEEPS_QUIET, node_of_b, node_with_door, up_to_date, with_b
+from staying.sessions import KEEPS_QUIET, asking, node_of_b, node_with_door, up_to_date, with_b
 
 T2 = 'table 2 t2 integer 4 0 gpc0'
 NAMES = ('table 1 st integer 4 0 server_key', 'table 2 su integer 4 0 server_key')
@@ -30,7 +30,7 @@ def answered(node, requests, at_once):
         node.admins.send(b'\n'.join(some) + b'\n')
         for request in some:
             line = node.admins.line()
-            require((line or '').startswith('reply '), request, line)
+            require((line or '').startswith('reply '), 'a track:', request, line)
 
 
 def again(trial, node, far, manners=Manners()):
@@ -113,9 +113,7 @@ def taught_back(trial):
 @check
 def partial_resync(trial):
     """a node that isn't up to date ends a resync as partial"""
-    node = node_of_b(trial)
-    far = connected(trial, node, manners=KEEPS_QUIET)
-    far.gets(REQUEST, 2)
+    node, far = asking(trial)
     between(0, finishes(far, message=PARTIAL), 1, 'seconds until its end')
     equal(far.count(FINISHED), 0, 'finished resyncs')
     node.shows('digbaro_resyncs_total{peer="b",role="teacher",end="partial"}', 1)
@@ -138,9 +136,7 @@ def broken_resync(trial):
 @check
 def finished_once_up_to_date(trial):
     """a session that began before its node was up to date ends a resync as finished once it is"""
-    node = node_of_b(trial)
-    far = connected(trial, node, manners=KEEPS_QUIET)
-    far.gets(REQUEST, 2)
+    node, far = asking(trial)
     far.send(FINISHED)
     up_to_date(node)
     finishes(far)
@@ -169,9 +165,7 @@ def asks_the_next(trial):
 @check
 def asks_another_if_one_goes(trial):
     """a node whose teacher goes away asks the next peer"""
-    node = node_of_b(trial, peers=('b', 'c'))
-    first = connected(trial, node, manners=KEEPS_QUIET)
-    first.gets(REQUEST, 2)
+    node, first = asking(trial, peers=('b', 'c'))
     second = connected(trial, node, 'c')
     time.sleep(0.2)
     equal(second.count(REQUEST), 0, 'requests while another peer is asked')
@@ -242,9 +236,7 @@ def late_answer(trial):
 @check
 def rows_keep_the_wait(trial):
     """a peer that brings a row every 3 s is waited for, and no other is asked"""
-    node = node_of_b(trial, peers=('b', 'c'))
-    far = connected(trial, node, manners=KEEPS_QUIET)
-    far.gets(REQUEST, 2)
+    node, far = asking(trial, peers=('b', 'c'))
     other = connected(trial, node, 'c')
     there = table(9, 't1')
     far.send(definition(there))
@@ -260,9 +252,7 @@ def rows_keep_the_wait(trial):
 @check
 def rows_of_other_tables(trial):
     """a peer that was asked and teaches nothing but a table that the node lacks, for 12 s, is waited for, isn't silent, and no other is asked"""
-    node = node_of_b(trial, peers=('b', 'c'))
-    far = connected(trial, node, manners=Manners(beats=False, answer=b''))
-    far.gets(REQUEST, 2)
+    node, far = asking(trial, manners=Manners(beats=False, answer=b''), peers=('b', 'c'))
     other = connected(trial, node, 'c')
     there = table(9, 'lacking')
     far.send(definition(there))
@@ -271,7 +261,7 @@ def rows_of_other_tables(trial):
         far.send(update(there, number, number, (1,)))
     far.stands()
     equal((far.count(REQUEST), other.count(REQUEST), node.logged('unanswered')), (1, 0, []), 'requests, and what the log says of those given up')
-    far.send(FINISHED)
+    far.send(definition(table(10, 't1')) + FINISHED)
     up_to_date(node)
     equal(other.count(REQUEST), 0, 'requests to the other peer')
 
@@ -312,9 +302,7 @@ def asks_again_after_a_minute(trial):
 @check
 def held_up_while_it_waits(trial):
     """a node that was held up while it waited for a peer says so, and the peer has its 5 s anew"""
-    node = node_of_b(trial, peers=('b', 'c'))
-    far = connected(trial, node, 'b', KEEPS_QUIET)
-    far.gets(REQUEST, 2)
+    node, far = asking(trial, peers=('b', 'c'))
     connected(trial, node, 'c', KEEPS_QUIET)
     node.child.send_signal(signal.SIGSTOP)
     time.sleep(7)
@@ -343,6 +331,95 @@ def all_partial(trial):
     wait(node.is_up_to_date, 2, 'the node is up to date', node.said)
     said, = node.logs('up-to-date')
     equal(said.keys, {}, 'by whom')
+
+
+def teaches(far, *tables):
+    """Answers a request for a resync: defines tables, and says that all rows are taught."""
+    far.send(b''.join(definition(of) for of in tables) + FINISHED)
+    far.gets(CONFIRMED, 2)
+
+
+@check
+def tables_that_differ(trial):
+    """the resync of a peer that defines a table otherwise is incomplete: the node isn't up to date by it, and asks the next peer"""
+    node = node_of_b(trial, peers=('b', 'c'), tables=(T1, T2))
+    first = connected(trial, node, 'b', KEEPS_QUIET)
+    first.gets(REQUEST, 2)
+    teaches(first, table(11, 't1'), table(12, 't2', types=('gpc0', 'gpc1')))
+    node.logs('resync-ended', peer='b', end='incomplete')
+    equal(node.head()['up_to_date'], 'no', 'up to date')
+    second = connected(trial, node, 'c', KEEPS_QUIET)
+    second.gets(REQUEST, 2)
+    teaches(second, table(21, 't1'), table(22, 't2'))
+    up_to_date(node)
+    said, = node.logs('up-to-date')
+    equal(said.keys, {'peer': 'c'}, 'by whom')
+    first.close()
+    first = connected(trial, node, 'b')
+    time.sleep(0.7)
+    equal((first.count(REQUEST), second.count(REQUEST)), (0, 1), 'requests')
+
+
+@check
+def asks_on_for_lacking_tables(trial):
+    """a node whose only peer lacks a table is up to date after 5 s, and asks whoever comes first then, and that peer once it defines all"""
+    node = node_of_b(trial, peers=('b', 'c', 'd'), tables=(T1, T2))
+    first = connected(trial, node, 'b', KEEPS_QUIET)
+    first.gets(REQUEST, 2)
+    teaches(first, table(11, 't1'))
+    wait(node.is_up_to_date, 7, 'the node is up to date')
+    between(4.9, time.monotonic() - node.started, 6.5, 'seconds until it is')
+    second = connected(trial, node, 'c', KEEPS_QUIET)
+    second.gets(REQUEST, 2)
+    teaches(second, table(21, 't1'), table(22, 't2', 'string', length=33))
+    equal(first.count(REQUEST), 1, 'requests to the first peer on one session')
+    # The same process may have been cut off for long: what it would teach is old.
+    first.close()
+    first = connected(trial, node, 'b', KEEPS_QUIET)
+    there = (table(31, 't1'), table(32, 't2'))
+    first.send(definition(there[0]) + update(there[0], 1, 7, (50,)))
+    first.gets_ack(31, 1, 2)
+    time.sleep(3.5)
+    equal(first.count(REQUEST), 0, 'requests to the same process')
+    first.send(definition(there[1]) + update(there[1], 1, 7, (60,)))
+    first.gets(REQUEST, 4)
+    teaches(first, *there)
+    node.logs('resync-ended', peer='b', end='finished')
+    third = connected(trial, node, 'd')
+    time.sleep(0.7)
+    equal((third.count(REQUEST), second.count(REQUEST)), (0, 1), 'requests once all rows are taught')
+
+
+@check
+def asks_another_process(trial):
+    """a node that lacks rows asks a peer again on its next session if its hello says another pid"""
+    node = node_of_b(trial, tables=(T1, T2))
+    far = connected(trial, node, 'b', KEEPS_QUIET)
+    far.gets(REQUEST, 2)
+    teaches(far, table(11, 't1'))
+    up_to_date(node)
+    for pid, requests in ((1, 0), (2, 1)):
+        far.close()
+        far = connected(trial, node, 'b', KEEPS_QUIET, pid=pid)
+        far.send(definition(table(11, 't1')))
+        time.sleep(0.7)
+        equal(far.count(REQUEST), requests, 'requests to a process with the pid %d' % pid)
+    teaches(far, table(31, 't1'), table(32, 't2'))
+    node.logs('resync-ended', peer='b', end='finished')
+
+
+@check
+def end_of_a_session_that_differs(trial):
+    """definitions that differ, rows, the end of a resync and the end of the connection in one piece are an incomplete resync all the same"""
+    node = node_of_b(trial, peers=('b', 'c'), tables=(T1, T2))
+    far = connected(trial, node, 'b', KEEPS_QUIET)
+    far.gets(REQUEST, 2)
+    there = table(11, 't1')
+    far.send(definition(there) + update(there, 1, 7, (50,)) + FINISHED + b'\1\0')
+    node.logs('resync-ended', peer='b', end='incomplete')
+    equal(node.head()['up_to_date'], 'no', 'up to date')
+    equal(node.ask('get t1 7'), 'row 1 - 7 50', 'the row')
+    connected(trial, node, 'c').gets(REQUEST, 2)
 
 
 @check

@@ -28,6 +28,22 @@ def with_b(trial, manners=Manners(), of=Node, **other):
     return node, far
 
 
+def with_c(trial, **other):
+    """Returns a node that waits for b and c, and its peer c, which has connected, once the node is up to date."""
+    node = Node(trial, peers=('b', 'c'), **other).start()
+    far = connected(trial, node, 'c')
+    up_to_date(node)
+    return node, far
+
+
+def asking(trial, manners=KEEPS_QUIET, **other):
+    """Returns a node and its peer b, which has connected, and which the node has asked for a resync."""
+    node = Node(trial, **other).start()
+    far = connected(trial, node, manners=manners)
+    far.gets(REQUEST, 2)
+    return node, far
+
+
 def node_with_door(trial, manners=Manners(), **other):
     """Returns a far side that listens, and a node that connects to it as to its peer b."""
     door = Door(trial, manners)
@@ -41,9 +57,7 @@ def up_to_date(node):
 @check
 def accepts(trial):
     """a node takes a connection, asks for a resync, and confirms its end"""
-    node = node_of_b(trial)
-    far = connected(trial, node, manners=KEEPS_QUIET)
-    far.gets(REQUEST, 2)
+    node, far = asking(trial)
     peer = node.peer('b')
     equal((peer['state'], peer['role'], peer['sessions']), ('asking', 'accept', '1'), 'the peer while the node asks')
     equal(node.head()['up_to_date'], 'no', 'up to date')
@@ -207,9 +221,7 @@ def idle(trial):
 @check
 def silent(trial):
     """a far side that says nothing is closed after 10 to 11 s"""
-    node = node_of_b(trial)
-    far = connected(trial, node, manners=Manners(beats=False, answer=b''))
-    far.gets(REQUEST, 2)
+    node, far = asking(trial, manners=Manners(beats=False, answer=b''))
     far.send(FINISHED)
     said = time.monotonic()
     far.gets(CONFIRMED, 2)
@@ -392,9 +404,7 @@ def second_that_leaves(trial):
 @check
 def second_that_stays(trial):
     """a second connection of a peer that stays for 300 ms takes the place of the first"""
-    node = node_of_b(trial)
-    first = connected(trial, node)
-    up_to_date(node)
+    node, first = with_b(trial)
     begun = time.monotonic()
     peer = speaks(trial, node, hello('n', 'b'))
     equal(status_of(peer, 3), b'200\n', 'the status')

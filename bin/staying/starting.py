@@ -68,7 +68,7 @@ def checked_configurations(trial):
         port = taken.getsockname()[1]
         ends(trial, ('run', '--check'), NEEDED % port + b'admin 127.0.0.1:%d\npeer b 127.0.0.1:9\n' % (port - 1), 0, b'')
         ends(trial, ('run', '--check'), NEEDED % port + b'admin 127.0.0.1:%d\npeer b 127.0.0.1:9\n' % port, 0,
-             b'line 4: warning: admin: line 2 has this port for peers, and requests have one of their own\n')
+             b'line 4: warning: admin: this is the port of "listen" on line 2, where peers connect; use another port for requests\n')
 
 
 @check

@@ -1,6 +1,7 @@
 mod AddressTexts
 mod KindLaws
 mod LineFacts
+mod MeantLaws
 mod NetworkTexts
 mod NumberWords
 mod OneReading

@@ -1,13 +1,13 @@
 -- A line is read in one way, so what has no fault is never refused.
-use Rattle.std.proofs.Common.{◌≡◌, ◌∙◌, ◌-◌, ◌==◌, ◌&&◌, ◌++◌, ap, false, inl, inr, arith, length, List, [], ◌∷◌, refl, subst, suc, sym, take, true, true≢false, zero, ℕ}
-use Rattle.std.specs.Prelude.{◌⊎◌, Err, None, Ok, Option, Result, Some, not}
+use Rattle.std.proofs.Common.{◌≡◌, ◌∙◌, ◌≤◌, ◌-◌, ◌==◌, ◌&&◌, ◌++◌, Bool, ap, false, inl, inr, arith, length, List, [], ◌∷◌, refl, subst, suc, sym, take, true, true≢false, zero, ℕ}
+use Rattle.std.specs.Prelude.{◌⊎◌, Err, None, Ok, Option, Result, Some, filter, if◌then◌else◌, is_none, is_some, not}
 use Rattle.std.specs.Net.Addr.{HasPrefix, IsLoopbackV4, IsLoopbackV6, MatchIp, ipv4_octets, ipv6_segments}
 use Rattle.std.specs.Net.Grammar.{IsColonHex}
 use Rattle.std.specs.Net.Socket.{socket_ip, socket_port}
 use Rattle.std.specs.declared.net.ip_addr.IpAddr.{IpAddr}
 use Rattle.std.specs.declared.net.ip_addr.IpAddr.TheVariants as ips
 use Rattle.std.specs.declared.net.socket_addr.SocketAddr.{SocketAddr}
-use Rattle.std.proofs.lemmas.Bool.{eqb-true, not-false}
+use Rattle.std.proofs.lemmas.Bool.{eqb-true, ne_eqb, not-false}
 use Rattle.std.proofs.lemmas.List.{append-nil, append_cancel_right}
 use Rattle.admin_text.specs.Addresses.{IsAddressText, IsHostText, IsLocal}
 use Rattle.admin_text.specs.Lines.{IsAdmin, IsAdminLine, IsLine, IsListenLine, IsMetricsLine, IsRead}
@@ -17,7 +17,8 @@ use Rattle.admin_text.specs.Outcomes.{fault_in, unless}
 use Rattle.admin_text.specs.PeerLines.{AreNetworks, IsAddressIf, IsPeerAt, IsPeerLine, IsPeerNamed, IsPeerOf, IsPeerWith, ReadsAddress, address_part, first_network, networks_part, peer_name, repeated, source_part}
 use Rattle.admin_text.specs.Before.{line_of}
 use Rattle.admin_text.specs.Readings.{AreRead}
-use Rattle.admin_text.specs.Refusals.{AreFaults, AreFaultsOf, IsFaultless, IsRefusalOf, lacking_of, listed, names_fault}
+use Rattle.admin_text.specs.Refusals.{AreFaults, AreFaultsOf, IsFaultless, IsRefusalOf, is_lacking, lacking_of, listed, names_fault, refuses_meant}
+use Rattle.admin_text.specs.SoFar.{HasNeeded, is_whole}
 use Rattle.admin_text.specs.Statements.{Said}
 use Rattle.admin_text.specs.declared.faults.Fault.{Fault}
 use Rattle.admin_text.specs.declared.faults.Fault.TheVariants as faults
@@ -29,8 +30,10 @@ use Rattle.admin_text.specs.declared.readings.Reading.{Reading}
 use Rattle.admin_text.specs.declared.refusals.Refusal.{Refusal}
 use Rattle.admin_text.specs.declared.settings.Setting.{Setting}
 use Rattle.admin_text.specs.declared.settings.Setting.TheVariants as settings
+use Rattle.admin_text.specs.declared.so_far.ConfigurationSoFar.{ConfigurationSoFar}
 use Rattle.admin_text.proofs.AddressTexts.{dotted_alone, last_apart, no_colon, one_colon_hex, one_dotted}
 use Rattle.admin_text.proofs.LineFacts.{and_parts}
+use Rattle.admin_text.proofs.RefusalLaws.{refuses_none}
 
 -- ---- a host is one address
 
@@ -225,7 +228,7 @@ not_refused lines refusal ((read, unread, split, none, end), nothing) is named =
     let (some, others, parts, found, last) = is.faults in
     let whole : AreFaultsOf [] (some ++ others) [] = subst (λ ls. AreFaultsOf [] ls []) (all_read lines read unread split end ∙ parts) none in
     let faulty : refusal.faults.items ≡ [] = nothing_found [] some refusal.faults.items (first_found [] some others whole) found in
-    let lacking : refusal.lacking.items ≡ [] = is.lacking ∙ ap (λ kinds. take (20 - length refusal.faults.items) kinds) nothing ∙ take_none (20 - length refusal.faults.items) in
+    let lacking : refusal.lacking.items ≡ [] = is.lacking ∙ ap (λ found. take (20 - length refusal.faults.items) (lacking_of found lines)) faulty ∙ ap (λ kinds. take (20 - length refusal.faults.items) kinds) nothing ∙ take_none (20 - length refusal.faults.items) in
     true≢false (sym named ∙ (ap (λ f. not (length f == 0 && length refusal.lacking.items == 0)) faulty ∙ ap (λ l. not (true && length l == 0)) lacking))
 
 -- ---- what is read to its end
@@ -244,7 +247,37 @@ take_some n [] is = refl
 take_some n (kind ∷ kinds) is = absurd (cc)
 
 pub faultless_read : (lines : List Said) (r : Reading) (lacking : List LineKind) → AreRead lines r
-    → lacking ≡ take (20 - length r.faults.items) (lacking_of lines) → r.faults.items ≡ [] → lacking ≡ [] → IsFaultless lines
+    → lacking ≡ take (20 - length r.faults.items) (lacking_of r.faults.items lines) → r.faults.items ≡ [] → lacking ≡ [] → IsFaultless lines
 faultless_read lines r lacking read is none nothing =
-    let all : take 20 (lacking_of lines) ≡ [] = sym (is ∙ ap (λ (found : List FaultyLine). take (20 - length found) (lacking_of lines)) none) ∙ nothing in
-    (subst (AreFaults lines) none read.faults, take_some 19 (lacking_of lines) all)
+    let all : take 20 (lacking_of [] lines) ≡ [] = sym (is ∙ ap (λ (found : List FaultyLine). take (20 - length found) (lacking_of found lines)) none) ∙ nothing in
+    (subst (AreFaults lines) none read.faults, take_some 19 (lacking_of [] lines) all)
+
+-- ---- what is whole
+
+-- without refused lines that may be meant
+some_line : (line : Option ℕ) (meant : Bool) → meant ≡ false → (is_none line && not meant) ≡ false → is_some line ≡ true
+some_line None meant none is = absurd (true≢false (sym (ap not none) ∙ is))
+some_line (Some number) meant none is = refl
+
+is_there : (lines : List Said) (kind : LineKind) → is_lacking [] lines kind ≡ false → is_some (line_of kind lines) ≡ true
+is_there lines kind is = some_line (line_of kind lines) (refuses_meant [] lines kind) (refuses_none lines kind) is
+
+none_kept : (keeps : Bool) (kind : LineKind) (more : List LineKind) → (if keeps then kind ∷ more else more) ≡ [] → (keeps ≡ false) × (more ≡ [])
+none_kept true kind more is = absurd (cc)
+none_kept false kind more is = (refl, is)
+
+whole_with : (s : ConfigurationSoFar) → is_some s.node ≡ true → is_some s.listen ≡ true → 1 ≤ length s.tables.items → is_whole s ≡ true
+whole_with s node listen tables =
+    let some : not (length s.tables.items == 0) ≡ true = ap not (ne_eqb (length s.tables.items) 0 (λ none. omega (arith, none, tables))) in
+    ap (λ (is : Bool). is && (is_some s.listen && not (length s.tables.items == 0))) node
+    ∙ ap (λ (is : Bool). is && not (length s.tables.items == 0)) listen
+    ∙ some
+
+pub nothing_lacks : (lines : List Said) (s : ConfigurationSoFar) → HasNeeded lines s → lacking_of [] lines ≡ [] → is_whole s ≡ true
+nothing_lacks lines s needs none =
+    let lacks : LineKind → Bool = is_lacking [] lines in
+    let (node, after) = none_kept (lacks kinds.Node) kinds.Node (filter lacks (kinds.Listen ∷ kinds.Table ∷ [])) none in
+    let (listen, last) = none_kept (lacks kinds.Listen) kinds.Listen (filter lacks (kinds.Table ∷ [])) after in
+    let (table, end) = none_kept (lacks kinds.Table) kinds.Table [] last in
+    whole_with s (needs.node (is_there lines kinds.Node node)) (needs.listen (is_there lines kinds.Listen listen))
+    (needs.tables (is_there lines kinds.Table table))

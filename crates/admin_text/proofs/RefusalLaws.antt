@@ -1,5 +1,5 @@
 -- The faults of more and more lines, and the lines that say them.
-use Rattle.std.proofs.Common.{◌≡◌, ◌∙◌, ◌+◌, ◌<◌, ◌++◌, ◌&&◌, true, ℕ, List, [], ◌∷◌, add-one, ap, append_assoc, codes, get_or, length, map, refl, subst, sym, take}
+use Rattle.std.proofs.Common.{◌≡◌, ◌∙◌, ◌+◌, ◌<◌, ◌++◌, ◌&&◌, false, true, ℕ, List, [], ◌∷◌, add-one, ap, append_assoc, codes, get_or, length, map, refl, subst, sym, take}
 use Rattle.std.specs.Prelude.{Result}
 use Rattle.std.proofs.Math.Seq.{take-suc}
 use Rattle.std.specs.List.{list_all}
@@ -7,7 +7,7 @@ use Rattle.std.proofs.lemmas.List.{append-nil, map-append}
 use Rattle.std.proofs.lemmas.List.Folds.{list_all-append}
 use Rattle.admin_text.specs.Lines.{IsRead}
 use Rattle.admin_text.specs.Outcomes.{fault_in}
-use Rattle.admin_text.specs.Refusals.{AreFaultsOf, lacking_head, listed}
+use Rattle.admin_text.specs.Refusals.{AreFaultsOf, lacking_head, listed, refuses_meant}
 use Rattle.admin_text.specs.SaidLines.{Adds, AddsPrintable, AreLines, is_printable}
 use Rattle.admin_text.specs.Statements.{Said}
 use Rattle.admin_text.specs.declared.line_kinds.LineKind.{LineKind}
@@ -77,6 +77,11 @@ line_added before headed said after head begun (sentence, same, all) ended = (
 )
 
 -- ---- lines that lack
+
+-- without faults no refused line is meant to be of any kind
+pub refuses_none : (lines : List Said) (kind : LineKind) → refuses_meant [] lines kind ≡ false
+refuses_none [] kind = refl
+refuses_none (line ∷ lines) kind = refuses_none lines kind
 
 pub lacking_said : (kinds : List LineKind) (i : ℕ) (k : LineKind) (heads : List (List ℕ)) (before after : List ℕ) → i < length kinds
     → Adds (codes "configuration: ") before after → AreLines (heads ++ map lacking_head (take i kinds)) before

@@ -3,6 +3,7 @@ pub mod Before
 pub mod Configurations
 pub mod LineKinds
 pub mod Lines
+pub mod MeantKinds
 pub mod NameFaults
 pub mod Named
 pub mod Networks

@@ -1,12 +1,13 @@
 -- What a line of a configuration says, or the first thing wrong with it (profile). It is read by its own words, and by those of the
 -- lines before it, whether these are refused or not.
-use Rattle.std.specs.Prelude.{◌≡◌, ◌⊎◌, ◌-◌, ◌^◌, ℕ, List, [], ◌∷◌, Option, Some, None, Result, Ok, Err, drop, if◌then◌else◌, is_some}
+use Rattle.std.specs.Prelude.{◌≡◌, ◌⊎◌, ◌||◌, ◌-◌, ◌^◌, ℕ, List, [], ◌∷◌, Option, Some, None, Result, Ok, Err, drop, if◌then◌else◌, is_some}
 use Rattle.std.specs.Option.{option_or}
 use Rattle.std.specs.declared.net.socket_addr.SocketAddr.{SocketAddr}
 use Rattle.node_text.specs.Numbers.{from_one, number_of}
 use Rattle.admin_text.specs.Addresses.{IsLocal}
 use Rattle.admin_text.specs.Before.{line_of, line_with}
 use Rattle.admin_text.specs.LineKinds.{kind_of}
+use Rattle.admin_text.specs.MeantKinds.{has_meant_with}
 use Rattle.admin_text.specs.NameFaults.{name_at}
 use Rattle.admin_text.specs.Named.{level_named}
 use Rattle.admin_text.specs.Outcomes.{led_on, or_fault, unless}
@@ -77,9 +78,10 @@ journal_at before words = Err (faults.Form kinds.Journal)
 
 -- ---- settings of a table
 
--- an earlier line has to give the id to a table
+-- an earlier line has to give the id to a table, or be plainly meant to
 abbrev pub no_table : List Said → List ℕ → Option Fault
-no_table before id = if is_some (line_with kinds.Table 1 id before) then None else Some faults.NoTable
+no_table before id =
+    if is_some (line_with kinds.Table 1 id before) || has_meant_with kinds.Table 1 id before then None else Some faults.NoTable
 
 -- 1 to 1,000,000 rows
 unfoldable pub size_at : List Said → List (List ℕ) → Result Setting Fault

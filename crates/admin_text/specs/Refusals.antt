@@ -1,12 +1,14 @@
 -- What is wrong with a configuration, and how it is said (profile).
 use Rattle.std.specs.Prelude.{◌≡◌, ◌⊎◌, ◌++◌, ◌-◌, ◌==◌, ◌&&◌, ℕ, Bool, not, List, [], ◌∷◌, Option, Some, None, Result, codes, filter, is_none, length, map, take}
 use Rattle.std.specs.Fmt.{decimal}
+use Rattle.std.specs.List.{list_any}
 use Rattle.admin_text.specs.Before.{line_of}
 use Rattle.admin_text.specs.Lines.{IsRead}
+use Rattle.admin_text.specs.MeantKinds.{is_meant}
 use Rattle.admin_text.specs.Outcomes.{fault_in}
 use Rattle.admin_text.specs.SaidLines.{AreLines}
 use Rattle.admin_text.specs.Statements.{Said}
-use Rattle.admin_text.specs.Warnings.{AreWarningsBeside}
+use Rattle.admin_text.specs.Warnings.{AreWarningsBeside, names_line}
 use Rattle.admin_text.specs.declared.line_kinds.LineKind.{LineKind}
 use Rattle.admin_text.specs.declared.line_kinds.LineKind.TheVariants as kinds
 use Rattle.admin_text.specs.declared.faults.Fault.{Fault}
@@ -38,13 +40,17 @@ AreFaults lines found =
 
 -- ---- which lines lack
 
--- none of the lines is of this kind
-abbrev pub is_lacking : List Said → LineKind → Bool
-is_lacking lines kind = is_none (line_of kind lines)
+-- one of the lines that these faults name is plainly meant to be of this kind
+abbrev pub refuses_meant : List FaultyLine → List Said → LineKind → Bool
+refuses_meant found lines kind = list_any (λ line. names_line found line.0 && is_meant kind line.1) lines
 
--- the lines that lack: one with the node's name, one with where it listens, and one with a table
-abbrev pub lacking_of : List Said → List LineKind
-lacking_of lines = filter (is_lacking lines) (kinds.Node ∷ kinds.Listen ∷ kinds.Table ∷ [])
+-- none of the lines is of this kind, and none that is refused is plainly meant to be
+abbrev pub is_lacking : List FaultyLine → List Said → LineKind → Bool
+is_lacking found lines kind = is_none (line_of kind lines) && not (refuses_meant found lines kind)
+
+-- the lines that lack beside these faults: one with the node's name, one with where it listens, and one with a table
+abbrev pub lacking_of : List FaultyLine → List Said → List LineKind
+lacking_of found lines = filter (is_lacking found lines) (kinds.Node ∷ kinds.Listen ∷ kinds.Table ∷ [])
 
 -- ---- refusals
 
@@ -62,7 +68,7 @@ heads_of found lacking = map head_of found ++ map lacking_head lacking
 -- fault, and behind them one each warning
 pub record IsRefusalOf (lines : List Said) (r : Refusal) : Type 0 where
   pub faults : AreFaults lines r.faults.items
-  pub lacking : r.lacking.items ≡ take (20 - length r.faults.items) (lacking_of lines)
+  pub lacking : r.lacking.items ≡ take (20 - length r.faults.items) (lacking_of r.faults.items lines)
   pub warnings : AreWarningsBeside r.faults.items lines r.warnings
   pub said : (own : List ℕ) × AreLines (heads_of r.faults.items r.lacking.items) own × (r.said.items ≡ own ++ r.warnings.said.items)
 
@@ -72,4 +78,4 @@ names_fault r = not (length r.faults.items == 0 && length r.lacking.items == 0)
 
 -- no line is refused, and none lacks
 abbrev pub IsFaultless : List Said → Type 0
-IsFaultless lines = AreFaults lines [] × (lacking_of lines ≡ [])
+IsFaultless lines = AreFaults lines [] × (lacking_of [] lines ≡ [])

@@ -13,6 +13,7 @@ use Rattle.table_types.specs.declared.data_type.DataType.TheVariants as types
 use Rattle.node_text.specs.Numbers.{number_of}
 use Rattle.admin_text.specs.Before.{line_of}
 use Rattle.admin_text.specs.LineKinds.{is_of_kind, is_word}
+use Rattle.admin_text.specs.MeantKinds.{has_meant}
 use Rattle.admin_text.specs.Networks.{address_bits, may_come}
 use Rattle.admin_text.specs.PeerLines.{AreNetworks, networks_part, source_part}
 use Rattle.admin_text.specs.Places.{ArePlaces, IsPlaceOf}
@@ -257,10 +258,10 @@ peers_heads true = codes "configuration: warning: " ∷ []
 peers_heads false = []
 
 -- what is warned of in some of these lines, and a line that says each: of lines that have something, and behind them, that there are no
--- peers
+-- peers, if no line is even meant to be one of a peer
 pub record AreWarningsAmong (some lines : List Said) (w : Warnings) : Type 0 where
   pub lines_warned : (all : List Place) × ArePlaces lines all × AreWarnings all (may_use_section lines) some w.lines.items
-  pub no_peers : w.no_peers ≡ is_none (line_of kinds.Peer lines)
+  pub no_peers : w.no_peers ≡ not (has_meant kinds.Peer lines)
   pub said : AreLines (map warned_head w.lines.items ++ peers_heads w.no_peers) w.said.items
 
 -- what is warned of in these lines

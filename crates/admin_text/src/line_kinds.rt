@@ -80,7 +80,7 @@ impl LineKind {
             LineKind::Size => "\"size ID ROWS\"",
             LineKind::Nopurge => "\"nopurge ID\"",
             LineKind::Log | LineKind::Journal =>
-                "\"log error\", \"log warn\", \"log info\", \"log debug\" or \"log journal\", one word a line",
+                "\"log error\", \"log warn\", \"log info\" (the default), \"log debug\", or \"log journal\" for systemd's journal",
         }
     }
 

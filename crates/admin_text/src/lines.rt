@@ -10,6 +10,7 @@ use crate::before::{line_of, line_with};
 use crate::faults::Fault;
 use crate::line_kinds::LineKind;
 use crate::line_refusals::LineRefusal;
+use crate::meant_kinds::has_meant_with;
 use crate::named::level_named;
 use crate::names::read_name;
 use crate::peer_lines::{read_peer, taken_name};
@@ -269,12 +270,14 @@ fn repeated(line: Option<usize>) -> Option<Fault>
     Some(Fault::Repeated(line?))
 }
 
-/// Returns that no earlier line gives the id to a table, if none does.
+/// Returns that no earlier line gives the id to a table, if none does, nor is plainly meant to.
 fn no_table(before: &[Statement<'_>], id: &[u8]) -> Option<Fault>
     ensures { result ≡ no_table (map said_by before.now) id.now }
 {
-    match line_with(before, LineKind::Table, 1, id) {
-        Some(_) => None,
-        None => Some(Fault::NoTable),
+    let is_given = line_with(before, LineKind::Table, 1, id).is_some();
+    if is_given || has_meant_with(before, LineKind::Table, 1, id) {
+        None
+    } else {
+        Some(Fault::NoTable)
     }
 }

@@ -46,24 +46,24 @@ impl Reading {
         }
     }
 
-    /// Reads a line behind the lines `before`.
+    /// Reads one of `lines`, which comes after the lines `before`.
     fn read(
         &mut self,
         alloc: Global,
+        lines: &[Statement<'_>],
         before: &[Statement<'_>],
         line: &Statement<'_>,
     ) -> Result<(), Memory>
         ensures { OnOk result ((outcome : Result Setting Fault) × IsRead (map said_by before.now) (map (λ word. word.now) line.now.words.items) outcome × IsNoted line.now.number outcome self.old self.new) }
     {
-        let words = line.words.as_slice();
-        match read_line(alloc, before, words) {
+        match read_line(alloc, before, line.words.as_slice()) {
             Ok(setting) => self.so_far.add(setting),
             Err(LineRefusal::Fault(fault)) => push_fault(
                 alloc,
                 &mut self.faults,
                 &mut self.said,
-                line.number,
-                words,
+                lines,
+                line,
                 fault,
             ),
             Err(LineRefusal::Memory) => Err(Memory),
@@ -90,7 +90,7 @@ impl Reading {
             faults,
             mut said,
         } = self;
-        let lacking = lacking_of(alloc, lines, MOST_FAULTS - faults.len())?;
+        let lacking = lacking_of(alloc, faults.as_slice(), lines, MOST_FAULTS - faults.len())?;
         push_lacking(&mut said, lacking.as_slice())?;
         let warnings = warnings_beside(alloc, faults.as_slice(), lines)?;
         push_lines(&mut said, warnings.said.as_slice())?;
@@ -116,7 +116,7 @@ fn read_lines(alloc: Global, lines: &[Statement<'_>]) -> Result<Reading, Memory>
 {
     let mut reading = Reading::new(alloc);
     for (index, line) in lines.iter().enumerate() {
-        reading.read(alloc, &lines[..index], line)?;
+        reading.read(alloc, lines, &lines[..index], line)?;
         if reading.faults.len() == MOST_FAULTS {
             return Ok(reading);
         }

@@ -1,16 +1,17 @@
 //! What is wrong with a configuration, line by line.
 ghost use Rattle.std.specs.Prelude.{◌≡◌, ◌∷◌, ◌++◌, ℕ, List, [], IfOk, OnOk, map, take, true};
-ghost use Rattle.admin_text.specs.Refusals.{head_of, is_lacking, lacking_head, lacking_of, names_fault};
+ghost use Rattle.admin_text.specs.Refusals.{head_of, is_lacking, lacking_head, lacking_of, names_fault, refuses_meant};
 ghost use Rattle.admin_text.specs.SaidLines.{Adds, AreLines};
 ghost use Rattle.admin_text.specs.Statements.{said_by};
 
 use crate::before::line_of;
 use crate::faults::{Fault, FaultyLine};
 use crate::line_kinds::LineKind;
+use crate::meant_kinds::is_meant;
 use crate::said_lines::{push_line, push_numbered};
 use crate::sentences::{lacking_sentence, sentence};
 use crate::statements::Statement;
-use crate::warnings::Warnings;
+use crate::warnings::{Warnings, names_line};
 use std::alloc::Global;
 use table_types::Memory;
 
@@ -39,19 +40,20 @@ impl Refusal {
     }
 }
 
-/// Appends a fault to `faults`, and the line that says it to `said`.
+/// Appends the fault of one of `lines` to `faults`, and the line that says it to `said`.
 pub(crate) fn push_fault(
     alloc: Global,
     faults: &mut Vec<FaultyLine>,
     said: &mut Vec<u8>,
-    number: usize,
-    words: &[&[u8]],
+    lines: &[Statement<'_>],
+    line: &Statement<'_>,
     fault: Fault,
 ) -> Result<(), Memory>
-    ensures listed { OnOk result (faults.new.items ≡ faults.old.items ++ record { number = number; fault = fault } ∷ []) }
-    ensures said { OnOk result (Adds (head_of (record { number = number; fault = fault })) said.old.items said.new.items) }
+    ensures listed { OnOk result (faults.new.items ≡ faults.old.items ++ record { number = line.now.number; fault = fault } ∷ []) }
+    ensures said { OnOk result (Adds (head_of (record { number = line.now.number; fault = fault })) said.old.items said.new.items) }
 {
-    let sentence = sentence(alloc, words, fault)?;
+    let sentence = sentence(alloc, lines, line.words.as_slice(), fault)?;
+    let number = line.number;
     faults.push(FaultyLine { number, fault })?;
     push_numbered(said, number, ": ", sentence.as_str())
 }
@@ -66,25 +68,38 @@ pub(crate) fn push_lacking(said: &mut Vec<u8>, lacking: &[LineKind]) -> Result<(
     Ok(())
 }
 
-/// Returns the kinds of the first `most` lines that lack.
+/// Returns the kinds of the first `most` lines that lack beside these faults.
 pub(crate) fn lacking_of(
     alloc: Global,
+    faults: &[FaultyLine],
     lines: &[Statement<'_>],
     most: usize,
 ) -> Result<Vec<LineKind>, Memory>
-    ensures { IfOk result (λ lacking. lacking.items ≡ take most (lacking_of (map said_by lines.now))) }
+    ensures { IfOk result (λ lacking. lacking.items ≡ take most (lacking_of faults.now (map said_by lines.now))) }
 {
     let lacking = NEEDED
         .iter()
         .copied()
-        .filter(|kind| is_lacking(lines, *kind))
+        .filter(|kind| is_lacking(faults, lines, *kind))
         .take(most);
     Ok(lacking.collect(alloc)?)
 }
 
-/// Returns whether none of the lines is of `kind`.
-fn is_lacking(lines: &[Statement<'_>], kind: LineKind) -> bool
-    ensures { result ≡ is_lacking (map said_by lines.now) kind }
+/// Returns whether none of the lines is of `kind`, and none that one of the faults names is plainly meant to be.
+fn is_lacking(faults: &[FaultyLine], lines: &[Statement<'_>], kind: LineKind) -> bool
+    ensures { result ≡ is_lacking faults.now (map said_by lines.now) kind }
 {
-    line_of(lines, kind).is_none()
+    line_of(lines, kind).is_none() && !refuses_meant(faults, lines, kind)
+}
+
+/// Returns whether one of the lines that the faults name is plainly meant to be of `kind`.
+fn refuses_meant(faults: &[FaultyLine], lines: &[Statement<'_>], kind: LineKind) -> bool
+    ensures { result ≡ refuses_meant faults.now (map said_by lines.now) kind }
+{
+    for line in lines {
+        if names_line(faults, line.number) && is_meant(kind, line.words.as_slice()) {
+            return true;
+        }
+    }
+    false
 }

@@ -1,142 +1,174 @@
 //! Sentences about tables and their settings.
 
+use crate::before::line_with;
 use crate::faults::TableFault;
-use crate::shown_words::{begins_with_digit, lacks_id, quoted, shown, word_at};
+use crate::line_kinds::{LineKind, is_word_at};
+use crate::shown_words::{
+    is_of_haproxy, lacks_id, quoted, quoted_word, shown, shown_word, text_of, word_at, zeros_hint,
+};
+use crate::statements::Statement;
 use crate::type_sentences::type_sentence;
 use crate::written_units::{milliseconds, rows};
 use std::alloc::{AllocError, Global};
 use table_types::KeyKind;
 
+/// The most milliseconds after which rows expire.
+const LONGEST_EXPIRE: u64 = (1 << 32) - 1;
+
+/// The most ids that are named.
+const MOST_IDS: usize = 8;
+
 /// Returns the sentence about a line of a table.
 pub(crate) fn table_sentence(
     alloc: Global,
-    about: &str,
     words: &[&[u8]],
     fault: TableFault,
 ) -> Result<String, AllocError> {
     match fault {
-        TableFault::Many => format!(in alloc; "{about}: a node has at most 64 tables"),
-        TableFault::Id => id_sentence(alloc, about, words),
+        TableFault::Many => format!(in alloc; "a node has at most 64 tables"),
+        TableFault::Id => id_sentence(alloc, words),
         TableFault::TakenId(line) => {
             let id = shown(words, 1);
             format!(in alloc;
-                "{about}: line {line} has the id {id} already, and each table has its own"
+                "line {line} already defines table {id}; use an id that no other table has"
             )
         }
-        TableFault::TakenName(line) => format!(in alloc;
-            "{about}: line {line} has this name already, and each table has its own"
-        ),
-        TableFault::Keys => keys_sentence(alloc, about, words),
-        TableFault::Length(kind) => length_sentence(alloc, about, words, kind),
-        TableFault::Expire => expire_sentence(alloc, about, words),
-        TableFault::Stored(place, fault) => {
-            type_sentence(alloc, about, word_at(words, place), fault)
+        TableFault::TakenName(line) => {
+            let name = shown(words, 2);
+            format!(in alloc;
+                "line {line} already defines {name}; delete one of the two lines, or merge them into one with all data types"
+            )
         }
+        TableFault::Keys => keys_sentence(alloc, word_at(words, 3)),
+        TableFault::Length(kind) => length_sentence(alloc, word_at(words, 4), kind),
+        TableFault::Expire => expire_sentence(alloc, word_at(words, 5)),
+        TableFault::Stored(place, fault) => type_sentence(alloc, word_at(words, place), fault),
     }
 }
 
 /// Returns the sentence about a word that isn't an id, or about a table without one.
-fn id_sentence(alloc: Global, about: &str, words: &[&[u8]]) -> Result<String, AllocError> {
-    if lacks_id(words) {
-        let (name, keys) = (shown(words, 1), shown(words, 2));
-        return format!(in alloc;
-            "{about}: the id is missing, a number that no other table has, as in \"table 1 {name} {keys} ..\""
-        );
-    }
+pub(crate) fn id_sentence(alloc: Global, words: &[&[u8]]) -> Result<String, AllocError> {
     let id = quoted(words, 1);
-    let zeros = zeros_hint(word_at(words, 1));
-    format!(in alloc;
-        "{about}: {id} is no id: it is a number from 1 to 2147483647{zeros}, any that no other table has, as in \"table 1 NAME KIND ..\""
-    )
+    if is_of_haproxy(words) {
+        let form = LineKind::Table.form();
+        format!(in alloc; "this is HAProxy's form; write {form}")
+    } else if lacks_id(words) {
+        let (name, keys) = (shown(words, 1), shown(words, 2));
+        format!(in alloc;
+            "write an id before the name, any number from 1 to 2147483647 that no other table has, as in \"table 1 {name} {keys} ..\""
+        )
+    } else {
+        let zeros = zeros_hint(word_at(words, 1));
+        format!(in alloc;
+            "{id} is not a valid id; use any number from 1 to 2147483647{zeros} that no other table has"
+        )
+    }
 }
 
 /// Returns the sentence about a word that isn't a kind of keys.
-fn keys_sentence(alloc: Global, about: &str, words: &[&[u8]]) -> Result<String, AllocError> {
-    let word = quoted(words, 3);
-    let hint = if word_at(words, 3) == b"ip".as_slice() {
-        "; HAProxy's ip is ipv4"
-    } else {
-        ""
-    };
-    format!(in alloc;
-        "{about}: {word} is no kind of keys; it is integer, ipv4, ipv6, string or binary{hint}"
-    )
+fn keys_sentence(alloc: Global, word: &[u8]) -> Result<String, AllocError> {
+    if word == b"ip".as_slice() {
+        return format!(in alloc; "write ipv4 for HAProxy's ip");
+    }
+    let word = quoted_word(word);
+    format!(in alloc; "{word} is not a key type; write integer, ipv4, ipv6, string or binary")
 }
 
-/// Returns the sentence about keys of a wrong length.
-fn length_sentence(
-    alloc: Global,
-    about: &str,
-    words: &[&[u8]],
-    kind: KeyKind,
-) -> Result<String, AllocError> {
-    let name = kind.name();
-    let word = shown(words, 4);
-    let lengths = match kind {
-        KeyKind::Integer | KeyKind::Ip4 => "length 4",
-        KeyKind::Ip6 => "length 16",
-        KeyKind::String =>
-            "a length of 1 to 8192, HAProxy's \"len N\" plus 1 (\"string len 32\" is 33 here, \"string\" alone is 32)",
-        KeyKind::Binary => "a length of 1 to 8192, HAProxy's \"len N\"",
-    };
-    format!(in alloc; "{about}: a key of kind {name} has {lengths}, not {word}")
-}
-
-/// Returns the sentence about a word that isn't a number of milliseconds.
-fn expire_sentence(alloc: Global, about: &str, words: &[&[u8]]) -> Result<String, AllocError> {
-    let word = shown(words, 5);
-    let expire = word_at(words, 5);
-    let zeros = zeros_hint(expire);
-    match milliseconds(expire) {
-        Some(number) => format!(in alloc;
-            "{about}: rows expire after a number of milliseconds, 0 (never) to 4294967295, not {word}; {word} is {number} ms"
+/// Returns the sentence about a length that keys of this kind don't have.
+fn length_sentence(alloc: Global, word: &[u8], kind: KeyKind) -> Result<String, AllocError> {
+    let word = shown_word(word);
+    match kind {
+        KeyKind::Integer => format!(in alloc; "the length of integer keys is 4, not {word}"),
+        KeyKind::Ip4 => format!(in alloc; "the length of ipv4 keys is 4, not {word}"),
+        KeyKind::Ip6 => format!(in alloc; "the length of ipv6 keys is 16, not {word}"),
+        KeyKind::String => format!(in alloc;
+            "the length of string keys is 1 to 8192, not {word}; for HAProxy's \"string len N\" write N + 1; for its plain \"string\" write 32, and ignore the warning about it"
         ),
-        None => format!(in alloc;
-            "{about}: rows expire after a number of milliseconds, 0 (never) to 4294967295{zeros}, not {word}"
+        KeyKind::Binary => format!(in alloc;
+            "the length of binary keys is 1 to 8192, not {word}; for HAProxy's \"binary len N\" write N"
         ),
     }
 }
 
-/// Returns the sentence about a setting of a table that isn't there.
-pub(crate) fn no_table_sentence(
-    alloc: Global,
-    about: &str,
-    words: &[&[u8]],
-) -> Result<String, AllocError> {
-    if begins_with_digit(word_at(words, 1)) {
-        let id = shown(words, 1);
-        format!(in alloc;
-            "{about}: no table above has the id {id}; this line stands below the line \"table {id} ..\""
-        )
-    } else {
-        let id = quoted(words, 1);
-        format!(in alloc;
-            "{about}: {id} is no id; this line takes the table's id, the number behind \"table\""
-        )
+/// Returns the sentence about a word that isn't a number of milliseconds.
+fn expire_sentence(alloc: Global, word: &[u8]) -> Result<String, AllocError> {
+    let (expire, zeros) = (shown_word(word), zeros_hint(word));
+    match milliseconds(word) {
+        Some(number) if number > LONGEST_EXPIRE => format!(in alloc;
+            "rows expire after 4294967295 ms at most, some 49 days; write that, or 0 for rows that never expire"
+        ),
+        Some(number) => format!(in alloc;
+            "rows expire after a number of milliseconds, 0 (never) to 4294967295, not {expire}; {expire} is {number} ms"
+        ),
+        None => format!(in alloc;
+            "rows expire after a number of milliseconds, 0 (never) to 4294967295{zeros}, not {expire}"
+        ),
     }
 }
 
 /// Returns the sentence about a word that isn't a number of rows.
-pub(crate) fn rows_sentence(
-    alloc: Global,
-    about: &str,
-    words: &[&[u8]],
-) -> Result<String, AllocError> {
-    let word = shown(words, 2);
-    let zeros = zeros_hint(word_at(words, 2));
-    match rows(word_at(words, 2)) {
+pub(crate) fn rows_sentence(alloc: Global, word: &[u8]) -> Result<String, AllocError> {
+    let (size, zeros) = (shown_word(word), zeros_hint(word));
+    match rows(word) {
         Some(number) => format!(in alloc;
-            "{about}: the number of rows is 1 to 1000000, not {word}; HAProxy's {word} is {number}"
+            "the number of rows is 1 to 1000000, not {size}; HAProxy's {size} is {number}"
         ),
-        None => format!(in alloc; "{about}: the number of rows is 1 to 1000000{zeros}, not {word}"),
+        None => format!(in alloc;
+            "the number of rows is 1 to 1000000{zeros}, not {size}; without this line it is 1000000"
+        ),
     }
 }
 
-/// Returns that numbers have no leading zeros, if this one has some.
-fn zeros_hint(word: &[u8]) -> &'static str {
-    if matches!(word, [b'0', b'0'..=b'9', ..]) {
-        " without leading zeros"
-    } else {
-        ""
+/// Returns the sentence about a setting of a table that no line above defines, by the word for the table's id.
+pub(crate) fn no_table_sentence(
+    alloc: Global,
+    lines: &[Statement<'_>],
+    word: &[u8],
+) -> Result<String, AllocError> {
+    let table = shown_word(word);
+    if let Some(line) = line_with(lines, LineKind::Table, 1, word) {
+        return format!(in alloc;
+            "line {line} defines table {table} only after this one; put this line after it"
+        );
     }
+    if let Some(id) = id_named(lines, word) {
+        let id = shown_word(id);
+        return format!(in alloc; "{table} is the table's name; write its id, {id}");
+    }
+    let ids = ids_in(alloc, lines)?;
+    if ids.is_empty() {
+        return format!(in alloc; "no line defines table {table}; define it above this line");
+    }
+    let ids = ids.as_str();
+    format!(in alloc;
+        "no line defines table {table}; define it above this line, or use the id of another table: {ids}"
+    )
+}
+
+/// Returns the id of the table with this name.
+fn id_named<'a>(lines: &[Statement<'a>], name: &[u8]) -> Option<&'a [u8]> {
+    for line in lines {
+        let words = line.words.as_slice();
+        if LineKind::Table.has(words) && is_word_at(words, 2, name) {
+            return Some(word_at(words, 1));
+        }
+    }
+    None
+}
+
+/// Returns the ids of tables, with commas between, and only the first eight.
+fn ids_in(alloc: Global, lines: &[Statement<'_>]) -> Result<String, AllocError> {
+    let mut ids = String::new(alloc);
+    let mut count = 0;
+    for line in lines {
+        let words = line.words.as_slice();
+        if LineKind::Table.has(words) && words.len() > 1 && count < MOST_IDS {
+            if count > 0 {
+                ids.push_str(", ")?;
+            }
+            ids.push_str(text_of(word_at(words, 1)))?;
+            count += 1;
+        }
+    }
+    Ok(ids)
 }

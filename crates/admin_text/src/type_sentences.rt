@@ -2,18 +2,21 @@
 
 use crate::faults::TypeFault;
 use crate::named::type_named;
-use crate::shown_words::{quoted_word, shown_word};
+use crate::shown_words::{quoted_word, shown_word, without_commas};
 use crate::type_words::{name_part, period_part};
 use crate::written_units::milliseconds;
-use node_text::cut;
+use node_text::{cut, number};
 use std::alloc::{AllocError, Global};
 use table_types::DataType;
 
+/// The most milliseconds of a period.
+const LONGEST_PERIOD: u64 = (1 << 32) - 1;
+
 /// Words that are no data types, and those that are meant.
 const MEANT: [(&str, &str); 10] = [
-    ("gpc", "gpc0"),
+    ("gpc", "gpc0 or gpc1"),
     ("gpt", "gpt0"),
-    ("gpc_rate", "gpc0_rate"),
+    ("gpc_rate", "gpc0_rate or gpc1_rate"),
     ("conn", "conn_cnt"),
     ("conn_count", "conn_cnt"),
     ("sess", "sess_cnt"),
@@ -26,48 +29,58 @@ const MEANT: [(&str, &str); 10] = [
 /// Returns the sentence about a word that isn't a data type that the table may store.
 pub(crate) fn type_sentence(
     alloc: Global,
-    about: &str,
     word: &[u8],
     fault: TypeFault,
 ) -> Result<String, AllocError> {
     match fault {
-        TypeFault::Unknown => unknown_sentence(alloc, about, word),
-        TypeFault::NoPeriod => no_period_sentence(alloc, about, word),
-        TypeFault::Period => period_sentence(alloc, about, word),
+        TypeFault::Unknown => unknown_sentence(alloc, word),
+        TypeFault::NoPeriod => no_period_sentence(alloc, word),
+        TypeFault::Period => period_sentence(alloc, word),
         TypeFault::Repeated => {
-            let name = shown_word(word);
-            format!(in alloc;
-                "{about}: a table stores each data type once, and {name} stands here a second time"
-            )
+            let name = shown_word(name_part(word));
+            format!(in alloc; "{name} is given twice; a table stores each data type once")
         }
     }
 }
 
 /// Returns the sentence about a word that begins with the name of no data type.
-fn unknown_sentence(alloc: Global, about: &str, word: &[u8]) -> Result<String, AllocError> {
-    let name = quoted_word(word);
-    if word.contains(&b',') {
+fn unknown_sentence(alloc: Global, word: &[u8]) -> Result<String, AllocError> {
+    if is_beyond_sharing(word) {
+        let word = quoted_word(word);
         return format!(in alloc;
-            "{about}: {name} is no data type: spaces stand between them, as in \"gpc0 gpc1\", and no commas"
+            "{word} is a data type from 20 up, which can't be shared; leave it out here, and give it a table of its own at HAProxy"
         );
     }
-    if let Some((rate, period)) = cut(word, b'(') {
-        return parentheses_sentence(alloc, about, word, rate, period);
+    if word.contains(&b',') {
+        let types = without_commas(alloc, word)?;
+        let types = types.as_str();
+        return format!(in alloc; "separate data types with spaces, not commas: \"{types}\"");
     }
+    if let Some((name, period)) = cut(word, b'(') {
+        return parentheses_sentence(alloc, word, name, period);
+    }
+    let name = quoted_word(word);
     match meant_by(name_part(word)) {
-        Some(meant) => format!(in alloc; "{about}: {name} is no data type: did you mean {meant}?"),
+        Some(meant) => format!(in alloc; "{name} is not a data type; did you mean {meant}?"),
         None => {
             let names = type_names(alloc)?;
             let names = names.as_str();
-            format!(in alloc; "{about}: {name} is no data type; they are {names}")
+            format!(in alloc; "{name} is not a data type; use {names}")
         }
     }
 }
 
-/// Returns the sentence about a word with its period in parentheses, from what comes before and behind the first one.
+/// Returns whether `word` is HAProxy's for an array of counters, of tags or of rates.
+fn is_beyond_sharing(word: &[u8]) -> bool {
+    match cut(word, b'(') {
+        Some((name, _)) => matches!(name, b"gpc" | b"gpt" | b"gpc_rate"),
+        None => false,
+    }
+}
+
+/// Returns the sentence about a word with its period in parentheses, from what comes before and after the first one.
 fn parentheses_sentence(
     alloc: Global,
-    about: &str,
     word: &[u8],
     name: &[u8],
     period: &[u8],
@@ -77,11 +90,11 @@ fn parentheses_sentence(
         (Some(rate), Some(number)) if rate.is_rate() => {
             let name = rate.name();
             format!(in alloc;
-                "{about}: {word} is no data type: write {name}:{number}, with the period in ms behind a colon"
+                "{word} is not a data type; write {name}:{number}, with the period in ms after a colon"
             )
         }
         _ => format!(in alloc;
-            "{about}: {word} is no data type: a rate has its period in ms behind a colon, as in http_req_rate:10000"
+            "{word} is not a data type; write a rate with its period in ms after a colon, as in http_req_rate:10000"
         ),
     }
 }
@@ -89,12 +102,20 @@ fn parentheses_sentence(
 /// Returns how many milliseconds HAProxy takes a time before `)` for.
 fn time_in(period: &[u8]) -> Option<u64> {
     match period {
-        [time @ .., b')'] => milliseconds(time),
+        [time @ .., b')'] => period_in(time),
         _ => None,
     }
 }
 
-/// Returns the data type that is meant by `name`, if it is a common mistake.
+/// Returns how many milliseconds HAProxy takes `time` for, if a rate may have them for a period.
+fn period_in(time: &[u8]) -> Option<u64> {
+    match milliseconds(time) {
+        Some(number) if number > 0 && number <= LONGEST_PERIOD => Some(number),
+        _ => None,
+    }
+}
+
+/// Returns the data types that are meant by `name`, if it is a common mistake.
 fn meant_by(name: &[u8]) -> Option<&'static str> {
     for pair in MEANT.iter() {
         if pair.0.as_bytes() == name {
@@ -105,39 +126,46 @@ fn meant_by(name: &[u8]) -> Option<&'static str> {
 }
 
 /// Returns the sentence about a rate without a period.
-fn no_period_sentence(alloc: Global, about: &str, word: &[u8]) -> Result<String, AllocError> {
-    let name = shown_word(word);
-    let time = behind_colon(word);
-    match milliseconds(time) {
-        Some(number) => {
-            let time = shown_word(time);
-            format!(in alloc;
-                "{about}: a rate has a period of 1 to 4294967295 ms behind it, as in http_req_rate:10000, not {name}; {time} is {number} ms"
-            )
-        }
+fn no_period_sentence(alloc: Global, word: &[u8]) -> Result<String, AllocError> {
+    let name = shown_word(name_part(word));
+    let time = after_colon(word);
+    let period = quoted_word(time);
+    match period_in(time) {
+        Some(number) => format!(in alloc; "write the period in ms: {name}:{number}"),
+        None if time.is_empty() => format!(in alloc;
+            "add the period of {name} in ms, 1 to 4294967295, after a colon, as in {name}:10000"
+        ),
         None => format!(in alloc;
-            "{about}: a rate has a period of 1 to 4294967295 ms behind it, as in http_req_rate:10000, not {name}"
+            "write the period as a number of ms, 1 to 4294967295, not {period}, as in {name}:10000"
         ),
     }
 }
 
 /// Returns the sentence about a data type with a period that isn't a rate.
-fn period_sentence(alloc: Global, about: &str, word: &[u8]) -> Result<String, AllocError> {
+fn period_sentence(alloc: Global, word: &[u8]) -> Result<String, AllocError> {
     let name = shown_word(name_part(word));
-    let period = shown_word(behind_colon(word));
     match rate_of(name_part(word)) {
         Some(rate) => {
-            let rate = rate.name();
+            let (rate, period) = (rate.name(), period_like(after_colon(word)));
             format!(in alloc;
-                "{about}: {name} is a counter and takes no period; write {name}, or {rate}:{period} for its rate"
+                "{name} is a counter and takes no period; write {name}, or {rate}:{period} for its rate"
             )
         }
-        None => format!(in alloc; "{about}: {name} is no rate and takes no period; write {name}"),
+        None => format!(in alloc; "{name} is not a rate and takes no period; write {name}"),
     }
 }
 
-/// Returns what comes behind the first `:` of `word`, or nothing.
-fn behind_colon(word: &[u8]) -> &[u8] {
+/// Returns the period in milliseconds that is meant by `time`, or an example if it is none.
+fn period_like(time: &[u8]) -> u64 {
+    match (period_in(time), number(time, LONGEST_PERIOD)) {
+        (Some(period), _) => period,
+        (None, Some(period)) if period > 0 => period,
+        _ => 10_000,
+    }
+}
+
+/// Returns what comes after the first `:` of `word`, or nothing.
+fn after_colon(word: &[u8]) -> &[u8] {
     match period_part(word) {
         Some(period) => period,
         None => &[],

@@ -1,6 +1,6 @@
 //! What is legal in a configuration, and surely meant otherwise.
-ghost use Rattle.std.specs.Prelude.{◌≡◌, ◌++◌, Option, IfOk, OnOk, is_none, map, option_to_list};
-ghost use Rattle.admin_text.specs.Before.{line_of};
+ghost use Rattle.std.specs.Prelude.{◌≡◌, ◌++◌, Option, IfOk, OnOk, map, not, option_to_list};
+ghost use Rattle.admin_text.specs.MeantKinds.{has_meant};
 ghost use Rattle.admin_text.specs.Places.{IsPlaceOf};
 ghost use Rattle.admin_text.specs.SaidLines.{AreLines};
 ghost use Rattle.admin_text.specs.Statements.{said_by};
@@ -10,17 +10,17 @@ ghost use Rattle.admin_text.specs.declared.places.Place.{Place};
 ghost use Rattle.admin_text.specs.declared.warnings.Warning.{Warning};
 
 use crate::address_warnings::{outside_warning_of, place_warning};
-use crate::before::line_of;
 use crate::faults::{FaultyLine, MOST_FAULTS};
 use crate::line_kinds::LineKind;
+use crate::meant_kinds::has_meant;
 use crate::places::{Place, place_of, places_of};
 use crate::said_lines::{push_line, push_numbered};
 use crate::section_warnings::{may_use_section, section_warning};
-use crate::sentences::warning_sentence;
 use crate::statements::Statement;
 use crate::table_warnings::{
     expire_warning, length_warning, name_warning, period_warning, server_warning,
 };
+use crate::warning_sentences::warning_sentence;
 use std::alloc::Global;
 use table_types::{DataType, Memory};
 
@@ -138,13 +138,13 @@ impl Warnings {
         push_numbered(&mut self.said, number, ": warning: ", sentence.as_str())
     }
 
-    /// Notes that there are no peers, if there are none. This is the last one.
+    /// Notes that there are no peers, if no line is even meant to be one of a peer. This is the last one.
     fn note_peers(&mut self, lines: &[Statement<'_>]) -> Result<(), Memory>
-        ensures no_peers { self.new.no_peers ≡ is_none (line_of kinds.Peer (map said_by lines.now)) }
+        ensures no_peers { self.new.no_peers ≡ not (has_meant kinds.Peer (map said_by lines.now)) }
         ensures listed { self.new.lines.items ≡ self.old.lines.items }
         ensures said { AreLines (map warned_head self.old.lines.items) self.old.said.items → OnOk result (AreLines (map warned_head self.new.lines.items ++ peers_heads self.new.no_peers) self.new.said.items) }
     {
-        self.no_peers = line_of(lines, LineKind::Peer).is_none();
+        self.no_peers = !has_meant(lines, LineKind::Peer);
         if self.no_peers {
             push_line(&mut self.said, "configuration: warning: ", NO_PEERS)?;
         }
@@ -154,7 +154,7 @@ impl Warnings {
 
 /// What is said if there are no peers.
 const NO_PEERS: &str =
-    "no line \"peer NAME ..\" names a peer, so the tables are shared with nobody";
+    "there is no line \"peer NAME ..\", so the tables aren't shared with any peer";
 
 /// Returns what is legal in these lines, and surely meant otherwise: in those that none of these faults names, if there are fewer than 20.
 pub(crate) fn warnings_beside(
@@ -192,7 +192,7 @@ fn warnings_among(
 }
 
 /// Returns whether one of the faults is that of the line with this number.
-fn names_line(faults: &[FaultyLine], number: usize) -> bool
+pub(crate) fn names_line(faults: &[FaultyLine], number: usize) -> bool
     ensures { result ≡ names_line faults.now number }
 {
     for faulty in faults {

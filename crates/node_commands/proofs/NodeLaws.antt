@@ -2,6 +2,7 @@
 use Rattle.std.proofs.Common.{◌≡◌, ◌≤◌, ◌+◌, ◌-◌, ℕ, true, false, List, [], ◌∷◌, Option, Some, None, subst, sym}
 use Rattle.std.specs.Prelude.{Err, IfOk, Ok, Result}
 use Rattle.std.specs.Io.KnownBytes.{Appends, Consumes}
+use Rattle.peers_devices.specs.Writing.{WriteCounts, no_writes}
 use Rattle.table_types.specs.Tables.{Definition}
 use Rattle.table_types.specs.declared.version.Version.TheVariants as versions
 use Rattle.table_shards.specs.Receipts.{fresh_seat}
@@ -17,8 +18,8 @@ use Rattle.node_commands.specs.Loading.{AreOpened}
 use Rattle.node_commands.specs.Nodes.{IsJoining, IsPrinted, IsServing, IsTold, joining_session}
 use Rattle.node_commands.specs.Sharing.{waiting_session}
 use Rattle.node_commands.specs.Printing.{IsText}
-use Rattle.node_commands.specs.Turning.{Plays}
-use Rattle.node_commands.proofs.TurningLaws.{IsPlayed}
+use Rattle.node_commands.specs.Turning.{Plays, Sending, sending, writer}
+use Rattle.node_commands.proofs.TurningLaws.{IsPlayedBy}
 
 -- the node that serves the scene
 pub serving_with : (scene : Scene) (name peer : List ℕ) (n : Node) (roster : List Definition) → AreInRisingId scene.tables.items roster
@@ -44,37 +45,40 @@ IsAudited n e taken report = (a : AuditState) × IsAuditOf n.tables (e.seat ∷ 
 pub audited_told : (n : Node) (e : Worker) (made taken : ℕ) (report : Report) → taken ≡ n.pace.taken + made → IsAudited n e taken report → IsTold n made e report.text.items
 audited_told n e made taken report is (a, audit, text) = (a, audit, subst (λ (k : ℕ). IsText k a.unlocked.tables report.text.items) is text)
 
-printed_of : (n : Node) (e : Worker) (turns made : ℕ) (ending : Ending) (received sent : List ℕ) (report : Report)
+printed_of : (n : Node) (e : Worker) (turns made : ℕ) (ending : Ending) (received : List ℕ) (sent : Sending) (report : Report)
     → Plays n.tables.shards n.pace 0 n.worker (turns - n.pace.taken) made ending received sent e → made ≤ turns - n.pace.taken → IsTold n made e report.text.items → IsPrinted n turns ending received sent report.text.items
 unfolding IsPrinted
 printed_of n e turns made ending received sent report plays within told = (made, e, (plays, within), told)
 
 -- what the turns received and sent, and the report after them
-abbrev IsReported : Node → ℕ → Option (List ℕ) → Option (List ℕ) → Option (List ℕ) → Option (List ℕ) → Report → Type 0
-IsReported n turns from to a b report =
-    (received sent : List ℕ) × IsPrinted n turns report.ending received sent report.text.items × Consumes from to received × Appends a b sent
+abbrev IsReported : Node → ℕ → Option (List ℕ) → Option (List ℕ) → Option (List ℕ) → ℕ → Option (List ℕ) → ℕ → Report → Type 0
+IsReported n turns from to old had new has report =
+    (received sent : List ℕ) × (counts : WriteCounts)
+    × IsPrinted n turns report.ending received (sending sent (writer old no_writes had) (writer new counts has)) report.text.items × Consumes from to received × Appends old new sent
 
-reported_of : (n : Node) (e : Worker) (turns most made taken : ℕ) (ending : Ending) (report : Report) (from to a b : Option (List ℕ))
+reported_of : (n : Node) (e : Worker) (turns most made taken : ℕ) (ending : Ending) (report : Report) (from to old : Option (List ℕ)) (had : ℕ) (new : Option (List ℕ)) (has : ℕ)
     → most ≡ turns - n.pace.taken → taken ≡ n.pace.taken + made
-    → IsPlayed n.tables.shards n.pace n.worker most made ending e from to a b → made ≤ most → IsAudited n e taken report → report.ending ≡ ending → IsReported n turns from to a b report
-reported_of n e turns most made taken ending report from to a b is_most is_taken (received, sent, plays, consumed, appended) within audited same = (
-  received,
-  sent,
-  subst (λ (x : Ending). IsPrinted n turns x received sent report.text.items) (sym same)
-      (printed_of n e turns made ending received sent report
-      (subst (λ (m : ℕ). Plays n.tables.shards n.pace 0 n.worker m made ending received sent e) is_most plays)
-      (subst (λ (m : ℕ). made ≤ m) is_most within)
-      (audited_told n e made taken report is_taken audited)),
-  consumed,
-  appended,
-)
+    → IsPlayedBy n.tables.shards n.pace n.worker most made ending e from to old had new has → made ≤ most → IsAudited n e taken report → report.ending ≡ ending → IsReported n turns from to old had new has report
+reported_of n e turns most made taken ending report from to old had new has is_most is_taken (received, sent, counts, plays, consumed, appended) within audited same =
+    let all : Sending = sending sent (writer old no_writes had) (writer new counts has) in (
+      received,
+      sent,
+      counts,
+      subst (λ (x : Ending). IsPrinted n turns x received all report.text.items) (sym same)
+          (printed_of n e turns made ending received all report
+          (subst (λ (m : ℕ). Plays n.tables.shards n.pace 0 n.worker m made ending received all e) is_most plays)
+          (subst (λ (m : ℕ). made ≤ m) is_most within)
+          (audited_told n e made taken report is_taken audited)),
+      consumed,
+      appended,
+    )
 
 -- the same of a report that may be missing
-pub report_printed : (n : Node) (e : Worker) (turns most made taken : ℕ) (ending : Ending) (r : Result Report Ending) (from to a b : Option (List ℕ))
+pub report_printed : (n : Node) (e : Worker) (turns most made taken : ℕ) (ending : Ending) (r : Result Report Ending) (from to old : Option (List ℕ)) (had : ℕ) (new : Option (List ℕ)) (has : ℕ)
     → most ≡ turns - n.pace.taken → taken ≡ n.pace.taken + made
-    → IsPlayed n.tables.shards n.pace n.worker most made ending e from to a b → made ≤ most
+    → IsPlayedBy n.tables.shards n.pace n.worker most made ending e from to old had new has → made ≤ most
     → IfOk r (IsAudited n e taken) → IfOk r (λ report. report.ending ≡ ending)
-    → IfOk r (λ report. (received sent : List ℕ) × IsPrinted n turns report.ending received sent report.text.items × Consumes from to received × Appends a b sent)
-report_printed n e turns most made taken ending (Ok report) from to a b is_most is_taken played within audited same =
-    reported_of n e turns most made taken ending report from to a b is_most is_taken played within audited same
-report_printed n e turns most made taken ending (Err error) from to a b is_most is_taken played within audited same = tt
+    → IfOk r (IsReported n turns from to old had new has)
+report_printed n e turns most made taken ending (Ok report) from to old had new has is_most is_taken played within audited same =
+    reported_of n e turns most made taken ending report from to old had new has is_most is_taken played within audited same
+report_printed n e turns most made taken ending (Err error) from to old had new has is_most is_taken played within audited same = tt

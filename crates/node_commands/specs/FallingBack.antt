@@ -9,6 +9,7 @@ use Rattle.node_commands.specs.declared.node.Node.{Node}
 use Rattle.node_commands.specs.declared.node.falling_back.Meeting.{Meeting}
 use Rattle.node_commands.specs.declared.node.falling_back.Meeting.TheVariants as meetings
 use Rattle.node_commands.specs.Nodes.{HasMet, IsJoining, IsPrinted, IsTold}
+use Rattle.node_commands.specs.Turning.{Sending}
 
 -- the session of another connection, if the one before fell back, and turns are left
 abbrev pub next_session : Node → ℕ → ℕ → Worker → Option KeptSession
@@ -31,7 +32,7 @@ IsFollowed (Some session) n made e ending (meetings.FellBack again) = again ≡ 
 IsFollowed next n made e ending meeting = ⊥
 
 -- a connection that received and sent the bytes given, and what follows it
-unfoldable pub IsMeeting : Node → ℕ → Meeting → List ℕ → List ℕ → Type 0
+unfoldable pub IsMeeting : Node → ℕ → Meeting → List ℕ → Sending → Type 0
 IsMeeting n turns meeting received sent =
     (made : ℕ)
     × (e : Worker)
@@ -42,7 +43,7 @@ IsMeeting n turns meeting received sent =
 -- how a node ends, and what it prints, after a first connection that ended so, and after the one that follows, if one does
 abbrev pub EndsSo : Option KeptSession → Node → ℕ → ℕ → Worker → Ending → Ending → List ℕ → Type 0
 EndsSo None n turns made e first ending text = (ending ≡ first) × IsTold n made e text
-EndsSo (Some session) n turns made e first ending text = (received sent : List ℕ) × IsPrinted (fallen_back n session made e) turns ending received sent text
+EndsSo (Some session) n turns made e first ending text = (received : List ℕ) × (sent : Sending) × IsPrinted (fallen_back n session made e) turns ending received sent text
 
 -- What a node prints that may fall back: after its first connection; or after the second, if its session fell back in the first, and
 -- turns are left.
@@ -51,7 +52,8 @@ IsPrintedAtLast n turns ending text =
     (made : ℕ)
     × (e : Worker)
     × (first : Ending)
-    × (received sent : List ℕ)
+    × (received : List ℕ)
+    × (sent : Sending)
     × HasMet n turns made first received sent e
     × EndsSo (next_session n turns made e) n turns made e first ending text
 

@@ -21,7 +21,7 @@ use Rattle.node_commands.specs.Auditing.{IsAuditOf}
 use Rattle.node_commands.specs.Loading.{AreOpened}
 use Rattle.node_commands.specs.Printing.{IsText}
 use Rattle.node_commands.specs.Sharing.{IsServer, IsShared, waiting_session}
-use Rattle.node_commands.specs.Turning.{Plays}
+use Rattle.node_commands.specs.Turning.{Plays, Sending}
 
 -- A node that waits for the peer to connect. It has the scene's tables in ascending order of their ids, loaded with the scene's
 -- updates. Its only session has number 1 in them and the second seat, is up to date, and doesn't leave by itself.
@@ -56,7 +56,7 @@ IsJoining scene name peer n =
 
 -- Over a connection, a node's session made `made` turns with the node's tables, received and sent the bytes given, and left the worker as `e`. It made at most
 -- `turns` turns, together with those of an earlier session.
-abbrev pub HasMet : Node → ℕ → ℕ → Ending → List ℕ → List ℕ → Worker → Type 0
+abbrev pub HasMet : Node → ℕ → ℕ → Ending → List ℕ → Sending → Worker → Type 0
 HasMet n turns made ending received sent e = Plays n.tables.shards n.pace 0 n.worker (turns - n.pace.taken) made ending received sent e × (made ≤ turns - n.pace.taken)
 
 -- What is printed then: how many turns the node's sessions made, and the rows of its tables, as an audit found them with the seat that
@@ -65,13 +65,13 @@ abbrev pub IsTold : Node → ℕ → Worker → List ℕ → Type 0
 IsTold n made e text = (a : AuditState) × IsAuditOf n.tables (e.seat ∷ []) a × IsText (n.pace.taken + made) a.unlocked.tables text
 
 -- what a node prints after its last or only connection
-unfoldable pub IsPrinted : Node → ℕ → Ending → List ℕ → List ℕ → List ℕ → Type 0
+unfoldable pub IsPrinted : Node → ℕ → Ending → List ℕ → Sending → List ℕ → Type 0
 IsPrinted n turns ending received sent text = (made : ℕ) × (e : Worker) × HasMet n turns made ending received sent e × IsTold n made e text
 
 -- What a node prints that serves the scene in one session; in several; and in as many as the link has.
 abbrev pub IsServedAlone : Scene → Link → Ending → List ℕ → Type 0
 IsServedAlone scene link ending text =
-    (n : Node) × (received sent : List ℕ) × IsServing scene link.name link.peer n × IsPrinted n link.turns ending received sent text
+    (n : Node) × (received : List ℕ) × (sent : Sending) × IsServing scene link.name link.peer n × IsPrinted n link.turns ending received sent text
 
 abbrev pub IsServedShared : Scene → Link → Ending → List ℕ → Type 0
 IsServedShared scene link ending text = (n : Server) × IsServer scene link.name link.peer link.sessions n × IsShared n link.turns ending text

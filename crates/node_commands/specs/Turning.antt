@@ -7,6 +7,7 @@ use Rattle.session_core.specs.declared.event.Event.{Event}
 use Rattle.session_core.specs.declared.state.State.TheVariants as states
 use Rattle.session_core.specs.Sessions.{SessionState, state_of}
 use Rattle.table_shards.specs.Rounds.{ShardsState}
+use Rattle.peers_devices.specs.Writing.{AreWritten, Balks, WriteCounts, Written, written}
 use Rattle.peers_engine.specs.declared.errors.EngineError.{EngineError}
 use Rattle.peers_engine.specs.declared.errors.EngineError.TheVariants as errors
 use Rattle.peers_engine.specs.declared.outcome.Outcome.{Outcome}
@@ -53,18 +54,56 @@ turn_at now w = worker w.session w.seat w.number now
 abbrev pub turn_after : Pace → ℕ → Worker → WorkerAt
 turn_after pace before w = turn_at (moment_of pace before) w
 
+-- A writer: the bytes that it holds, if they are known, and what its writes came to; and how many of its calls failed, by its own count.
+pub record Writer : Type 0 where
+  pub written : Written
+  pub failed : ℕ
+
+-- what turns sent, and the writer before and after them
+pub record Sending : Type 0 where
+  pub bytes : List ℕ
+  pub from : Writer
+  pub to : Writer
+
+abbrev pub writer : Option (List ℕ) → WriteCounts → ℕ → Writer
+writer contents counts failed = record { written = written contents counts; failed = failed }
+
+abbrev pub sending : List ℕ → Writer → Writer → Sending
+sending bytes from to = record { bytes = bytes; from = from; to = to }
+
+-- nothing was sent
+abbrev pub nothing_sent : Writer → Sending
+nothing_sent writer = record { bytes = []; from = writer; to = writer }
+
+-- first the one was sent, and then the other
+abbrev pub both_sent : Sending → Sending → Sending
+both_sent first later = record { bytes = first.bytes ++ later.bytes; from = first.from; to = later.to }
+
+-- the writes of a turn took exactly these bytes, all together
+abbrev pub AreSent : Sending → Type 0
+AreSent sent = AreWritten sent.from.written sent.to.written sent.bytes
+
+-- why the turn gave the writer up, if it ended so
+abbrev pub IsGivenUp : EngineError → Sending → Type 0
+IsGivenUp (errors.Write count) sent = Balks sent.from.failed sent.to.failed sent.from.written.counts sent.to.written.counts
+IsGivenUp error sent = Unit {0}
+
 -- A turn with these tables takes the worker to another state, returns its result, and received and sent the bytes given. After an error
 -- the session is over.
-abbrev pub Takes : ShardsState → WorkerAt → Result Outcome EngineError → List ℕ → List ℕ → WorkerAt → Type 0
+abbrev pub Takes : ShardsState → WorkerAt → Result Outcome EngineError → List ℕ → Sending → WorkerAt → Type 0
 Takes shards w (Ok gave) received sent e =
-    ((event : Option Event) × IsRead (received ≡ []) event received × TakesTurn (received ≡ []) w event sent e) × ((gave ≡ outcomes.Closed) ↔ (state_of e.session.session.phase ≡ states.Ended))
+    ((event : Option Event) × IsRead (received ≡ []) event received × TakesTurn (received ≡ []) w event sent.bytes e)
+    × ((gave ≡ outcomes.Closed) ↔ (state_of e.session.session.phase ≡ states.Ended))
+    × AreSent sent
 Takes shards w (Err error) received sent e =
-    ((event : Option Event) × IsRead (received ≡ []) event received × StopsTurn shards (received ≡ []) w event error sent e.session e.seat)
+    ((event : Option Event) × IsRead (received ≡ []) event received × StopsTurn shards (received ≡ []) w event error sent.bytes e.session e.seat)
     × (state_of e.session.session.phase ≡ states.Ended)
+    × AreSent sent
+    × IsGivenUp error sent
 
 -- nothing more is received or sent, and the worker stays as it is
-abbrev pub Rests : Worker → List ℕ → List ℕ → Worker → Type 0
-Rests w received sent e = (received ≡ []) × (sent ≡ []) × (e ≡ w)
+abbrev pub Rests : Worker → List ℕ → Sending → Worker → Type 0
+Rests w received sent e = (received ≡ []) × (sent ≡ nothing_sent sent.from) × (e ≡ w)
 
 -- the session ends after this turn, or goes on
 abbrev pub GoesOn : Option Ending → ℕ → Ending → Type 0 → Type 0 → Type 0
@@ -73,15 +112,17 @@ GoesOn (Some by) made ending rests on = (made ≡ 1) × (ending ≡ by) × rests
 
 -- After `before` turns, the worker makes `made` more with these tables, of at most as many as given. It makes them one after another, up to the one
 -- after which its session ends; if none ends it, it ends with `Done`. The worker received and sent the bytes given, one turn's after
--- another's.
-abbrev pub Plays : ShardsState → Pace → ℕ → Worker → ℕ → ℕ → Ending → List ℕ → List ℕ → Worker → Type 0
+-- another's, and each turn begins with the writer as the one before left it.
+abbrev pub Plays : ShardsState → Pace → ℕ → Worker → ℕ → ℕ → Ending → List ℕ → Sending → Worker → Type 0
 Plays shards pace before w zero made ending received sent e = (made ≡ 0) × (ending ≡ endings.Done) × Rests w received sent e
 Plays shards pace before w (suc left) made ending received sent e =
     (gave : Result Outcome EngineError)
     × (mid : Worker)
-    × (first out later_received later_sent : List ℕ)
+    × (first later_received : List ℕ)
+    × (out later_sent : Sending)
     × Takes shards (turn_after pace before w) gave first out (turn_after pace before mid)
     × (received ≡ first ++ later_received)
-    × (sent ≡ out ++ later_sent)
+    × (sent ≡ both_sent out later_sent)
+    × (later_sent.from ≡ out.to)
     × GoesOn (ending_after pace.leaves mid.session.session gave) made ending (Rests mid later_received later_sent e)
     ((later : ℕ) × (made ≡ later + 1) × Plays shards pace (before + 1) mid left later ending later_received later_sent e)

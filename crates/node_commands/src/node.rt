@@ -10,6 +10,7 @@ mod turns;
 
 ghost use Rattle.std.specs.Prelude.{◌≡◌, ◌≢◌, ◌⊎◌, ◌∷◌, [], ℕ, List, true, false, IfErr, IfOk, string_bytes};
 ghost use Rattle.std.specs.Io.KnownBytes.{Appends, Consumes};
+ghost use Rattle.peers_devices.specs.Writing.{WriteCounts, no_writes};
 ghost use Rattle.node_text.specs.declared.scenes.Scene.{Scene};
 ghost use Rattle.text_commands.specs.Endings.{IsEarly, line_of};
 ghost use Rattle.table_types.specs.declared.version.Version.TheVariants as versions;
@@ -18,6 +19,7 @@ ghost use Rattle.table_shards.specs.Audits.{AuditState};
 ghost use Rattle.node_commands.specs.Auditing.{IsAuditOf};
 ghost use Rattle.node_commands.specs.Nodes.{AppendsSome, IsJoining, IsPrinted, IsServing, has_rows, is_told, joining_session};
 ghost use Rattle.node_commands.specs.Printing.{IsText};
+ghost use Rattle.node_commands.specs.Turning.{sending, writer};
 
 use crate::node::auditing::audited;
 use crate::node::loading::{NodeTables, SESSION, opened};
@@ -309,7 +311,8 @@ impl Node {
         from: &mut R,
         to: &mut W,
     ) -> Result<Report, Ending>
-        ensures printed { IfOk result (λ report. (received sent : List ℕ) × IsPrinted self turns report.ending received sent report.text.items
+        ensures printed { IfOk result (λ report. (received sent : List ℕ) × (writes : WriteCounts)
+            × IsPrinted self turns report.ending received (sending sent (writer (W.contents to.old) no_writes (W.failed to.old)) (writer (W.contents to.new) writes (W.failed to.new))) report.text.items
             × Consumes (R.remaining from.old) (R.remaining from.new) received
             × Appends (W.contents to.old) (W.contents to.new) sent) }
         ensures early { IfErr result (λ ending. (ending ≡ endings.Memory) ⊎ (ending ≡ endings.Device)) }

@@ -10,6 +10,7 @@ ghost use Rattle.node_commands.specs.declared.node.Report.{Report};
 ghost use Rattle.node_commands.specs.FallingBack.{IsJoined, IsMeeting};
 ghost use Rattle.node_commands.specs.Nodes.{AppendsSome, HasRows, IsPrinted, IsServed, IsServedAlone, IsServedShared};
 ghost use Rattle.node_commands.specs.Sharing.{IsShared};
+ghost use Rattle.node_commands.specs.Turning.{Sending};
 
 use crate::link::Link;
 use crate::node::{Meeting, Node, Report, Server, serve_all, total_of};
@@ -64,7 +65,7 @@ fn met<H: Wait>(
     turns: u32,
     stream: io::Result<TcpStream>,
 ) -> Result<Report, Ending>
-    ensures printed { IfOk result (λ report. (received sent : List ℕ) × IsPrinted node turns report.ending received sent report.text.items) }
+    ensures printed { IfOk result (λ report. (received : List ℕ) × (sent : Sending) × IsPrinted node turns report.ending received sent report.text.items) }
     ensures early { IfErr result IsEarly }
 {
     match stream {
@@ -89,7 +90,7 @@ fn met_first<H: Wait>(
     turns: u32,
     stream: io::Result<TcpStream>,
 ) -> Result<Meeting, Ending>
-    ensures met { IfOk result (λ meeting. (received sent : List ℕ) × IsMeeting node turns meeting received sent) }
+    ensures met { IfOk result (λ meeting. (received : List ℕ) × (sent : Sending) × IsMeeting node turns meeting received sent) }
     ensures early { IfErr result IsEarly }
 {
     match stream {

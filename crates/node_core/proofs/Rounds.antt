@@ -8,7 +8,7 @@ use Rattle.node_core.specs.declared.asking.Standing.{Standing}
 use Rattle.node_core.specs.declared.asking.Standing.TheVariants as standings
 use Rattle.node_core.specs.declared.asking.Candidate.{Candidate}
 use Rattle.node_core.specs.CatchingUp.{AskingState, asked, brought, can_be_asked, changed, heard, is_asked, is_due, is_first, is_no_later, is_next, is_overdue, is_rested, owes, stood}
-use Rattle.node_core.specs.AskingRuns.{Answer, Finished, Partial, Nothing, CanBeAsked, Rounds, answered, was_before}
+use Rattle.node_core.specs.AskingRuns.{Answer, Finished, Partial, Incomplete, Nothing, CanBeAsked, Rounds, answered, was_before}
 
 -- ---- tests
 
@@ -95,12 +95,12 @@ first_or_none now (x ∷ cs) = by (can_be_asked now x) refl (first_or_none now c
         earlier true is = inr (zero, x, refl, can, and_both (is_behind now x.asked_at x) (list_all (is_behind now x.asked_at) cs) (behind x.asked_at true can (itself x.asked_at)) (behind_earlier now x.asked_at d.asked_at cs is all))
         earlier false is = inr (suc i, d, found, can_too, and_both (is_behind now d.asked_at x) (list_all (is_behind now d.asked_at) cs) (behind d.asked_at true can (one_of_both x.asked_at d.asked_at is)) all)
 
-pub exists_next : (now peer : ℕ) (a : AskingState) (c : Candidate) → a.up_to_date ≡ false → a.awaited ≡ None → slice_get a.peers peer ≡ Some c → can_be_asked now c ≡ true → (next : ℕ) × (is_next next now a ≡ true)
+pub exists_next : (now peer : ℕ) (a : AskingState) (c : Candidate) → a.taught ≡ false → a.awaited ≡ None → slice_get a.peers peer ≡ Some c → can_be_asked now c ≡ true → (next : ℕ) × (is_next next now a ≡ true)
 exists_next now peer a c behind none found can = by (first_or_none now a.peers)
   where
     by : (none_can now a.peers ≡ true) ⊎ HasFirst now a.peers → (next : ℕ) × (is_next next now a ≡ true)
     by (inl nobody) = absurd (false≢true (ap not (sym can) ∙ passes (λ q. not (can_be_asked now q)) a.peers peer c nobody found))
-    by (inr (i, d, there, can_too, all)) = (i, and_both (not a.up_to_date) (is_none a.awaited && is_first now a.peers (slice_get a.peers i)) (ap not behind) (and_both (is_none a.awaited) (is_first now a.peers (slice_get a.peers i)) (ap is_none none) (ap (is_first now a.peers) there ∙ and_both (can_be_asked now d) (list_all (is_behind now d.asked_at) a.peers) can_too all)))
+    by (inr (i, d, there, can_too, all)) = (i, and_both (not a.taught) (is_none a.awaited && is_first now a.peers (slice_get a.peers i)) (ap not behind) (and_both (is_none a.awaited) (is_first now a.peers (slice_get a.peers i)) (ap is_none none) (ap (is_first now a.peers) there ∙ and_both (can_be_asked now d) (list_all (is_behind now d.asked_at) a.peers) can_too all)))
 
 -- ---- a peer is changed
 
@@ -170,11 +170,11 @@ as_many_ahead t s (d ∷ cs) (suc i) = by (is_no_later d.asked_at t) (as_many_ah
 abbrev pub made_asked : ℕ → Candidate → Candidate
 made_asked now p = record { standing = standings.Asked; asked_at = Some now; since = Some now }
 
-pub next_given : (q now : ℕ) (a : AskingState) → is_next q now a ≡ true → (a.up_to_date ≡ false) × (d : Candidate) × (slice_get a.peers q ≡ Some d) × (list_all (is_behind now d.asked_at) a.peers ≡ true)
+pub next_given : (q now : ℕ) (a : AskingState) → is_next q now a ≡ true → (a.taught ≡ false) × (d : Candidate) × (slice_get a.peers q ≡ Some d) × (list_all (is_behind now d.asked_at) a.peers ≡ true)
 next_given q now a next =
-    let both = and_true (not a.up_to_date) (is_none a.awaited && is_first now a.peers (slice_get a.peers q)) next in
+    let both = and_true (not a.taught) (is_none a.awaited && is_first now a.peers (slice_get a.peers q)) next in
     let given = first (slice_get a.peers q) (and_true (is_none a.awaited) (is_first now a.peers (slice_get a.peers q)) both.1).1 in
-    (by a.up_to_date both.0, given.0, given.1, given.2)
+    (by a.taught both.0, given.0, given.1, given.2)
   where
     by : (b : Bool) → not b ≡ true → b ≡ false
     by true h = cc
@@ -191,7 +191,7 @@ owes_then q now a d found = ap owes (it_changes (made_asked now) a.peers q d fou
 answered_get : (answer : Answer) (q later j : ℕ) (a : AskingState) → (q ≡ j → ⊥) → slice_get (answered answer q later a).peers j ≡ slice_get a.peers j
 answered_get Finished q later j a apart = by (owes (slice_get a.peers q))
   where
-    by : (b : Bool) → slice_get (AskingState.peers (cond b (record a { up_to_date = true; awaited = None }) a)) j ≡ slice_get a.peers j
+    by : (b : Bool) → slice_get (AskingState.peers (cond b (record a { taught = true; awaited = None }) a)) j ≡ slice_get a.peers j
     by true = refl
     by false = refl
 answered_get Partial q later j a apart = by (owes (slice_get a.peers q))
@@ -199,12 +199,17 @@ answered_get Partial q later j a apart = by (owes (slice_get a.peers q))
     by : (b : Bool) → slice_get (AskingState.peers (cond b (stood standings.Partial q a) a)) j ≡ slice_get a.peers j
     by true = others_stay (λ p. record p { standing = standings.Partial }) a.peers q j apart
     by false = refl
+answered_get Incomplete q later j a apart = by (owes (slice_get a.peers q))
+  where
+    by : (b : Bool) → slice_get (AskingState.peers (cond b (stood standings.Incomplete q a) a)) j ≡ slice_get a.peers j
+    by true = others_stay (λ p. record p { standing = standings.Incomplete }) a.peers q j apart
+    by false = refl
 answered_get Nothing q later j a apart = refl
 
 answered_ahead : (answer : Answer) (q later : ℕ) (t : Option ℕ) (a : AskingState) → ahead t (answered answer q later a).peers ≡ ahead t a.peers
 answered_ahead Finished q later t a = by (owes (slice_get a.peers q))
   where
-    by : (b : Bool) → ahead t (AskingState.peers (cond b (record a { up_to_date = true; awaited = None }) a)) ≡ ahead t a.peers
+    by : (b : Bool) → ahead t (AskingState.peers (cond b (record a { taught = true; awaited = None }) a)) ≡ ahead t a.peers
     by true = refl
     by false = refl
 answered_ahead Partial q later t a = by (owes (slice_get a.peers q))
@@ -212,21 +217,29 @@ answered_ahead Partial q later t a = by (owes (slice_get a.peers q))
     by : (b : Bool) → ahead t (AskingState.peers (cond b (stood standings.Partial q a) a)) ≡ ahead t a.peers
     by true = as_many_ahead t standings.Partial a.peers q
     by false = refl
+answered_ahead Incomplete q later t a = by (owes (slice_get a.peers q))
+  where
+    by : (b : Bool) → ahead t (AskingState.peers (cond b (stood standings.Incomplete q a) a)) ≡ ahead t a.peers
+    by true = as_many_ahead t standings.Incomplete a.peers q
+    by false = refl
 answered_ahead Nothing q later t a = refl
 
 answered_none : (answer : Answer) (q now : ℕ) (a : AskingState) (d : Candidate) → slice_get a.peers q ≡ Some d → (answered answer q (now + 5000) (asked q now a)).awaited ≡ None
-answered_none Finished q now a d found = ap (λ (b : Bool). AskingState.awaited (cond b (record (asked q now a) { up_to_date = true; awaited = None }) (asked q now a))) (owes_then q now a d found)
+answered_none Finished q now a d found = ap (λ (b : Bool). AskingState.awaited (cond b (record (asked q now a) { taught = true; awaited = None }) (asked q now a))) (owes_then q now a d found)
 answered_none Partial q now a d found = ap (λ (b : Bool). AskingState.awaited (cond b (stood standings.Partial q (asked q now a)) (asked q now a))) (owes_then q now a d found)
+    ∙ ap (λ (b : Bool). cond b None (Some (record { peer = q; asked_at = now; since = now }))) (eq-eqb q q refl)
+answered_none Incomplete q now a d found = ap (λ (b : Bool). AskingState.awaited (cond b (stood standings.Incomplete q (asked q now a)) (asked q now a))) (owes_then q now a d found)
     ∙ ap (λ (b : Bool). cond b None (Some (record { peer = q; asked_at = now; since = now }))) (eq-eqb q q refl)
 answered_none Nothing q now a d found = ap (λ (b : Bool). cond (b || nat_le 600000 (now + 5000 - now)) None (Some (record { peer = q; asked_at = now; since = now }))) (le-leb 5000 (now + 5000 - now) (omega arith))
 
-finishes : (answer : Answer) (q later now : ℕ) (a : AskingState) (d : Candidate) → answer ≡ Finished → slice_get a.peers q ≡ Some d → (answered answer q later (asked q now a)).up_to_date ≡ true
-finishes Finished q later now a d is found = ap (λ (b : Bool). AskingState.up_to_date (cond b (record (asked q now a) { up_to_date = true; awaited = None }) (asked q now a))) (owes_then q now a d found)
+finishes : (answer : Answer) (q later now : ℕ) (a : AskingState) (d : Candidate) → answer ≡ Finished → slice_get a.peers q ≡ Some d → (answered answer q later (asked q now a)).taught ≡ true
+finishes Finished q later now a d is found = ap (λ (b : Bool). AskingState.taught (cond b (record (asked q now a) { taught = true; awaited = None }) (asked q now a))) (owes_then q now a d found)
 finishes Partial q later now a d is found = cc
+finishes Incomplete q later now a d is found = cc
 finishes Nothing q later now a d is found = cc
 
-over : (answers : ℕ → Answer) (now : ℕ) (ps : List ℕ) (a e : AskingState) → a.up_to_date ≡ true → Rounds answers now ps a e → (length ps ≡ 0) × (e.up_to_date ≡ true)
-over answers now [] a e done is = (refl, ap AskingState.up_to_date is ∙ done)
+over : (answers : ℕ → Answer) (now : ℕ) (ps : List ℕ) (a e : AskingState) → a.taught ≡ true → Rounds answers now ps a e → (length ps ≡ 0) × (e.taught ≡ true)
+over answers now [] a e done is = (refl, ap AskingState.taught is ∙ done)
 over answers now (q ∷ ps) a e done (next, rest) = absurd (false≢true (sym (next_given q now a next).0 ∙ done))
 
 -- ---- later
@@ -253,6 +266,7 @@ due_later standings.Away now since t h = cc
 due_later standings.Unasked now since t h = refl
 due_later standings.Asked now since t h = ready_later now since t h
 due_later standings.Partial now since t h = ready_later now since t h
+due_later standings.Incomplete now since t h = cc
 
 before_later : (now : ℕ) (t : Option ℕ) → was_before now t ≡ true → was_before (now + 5000) t ≡ true
 before_later now None h = refl
@@ -299,11 +313,11 @@ rounds_fit answers peer now ps a e (c, found, can, before) finish rounds = omega
 next_time : (now n : ℕ) → now + 5000 + 5000 * n ≡ now + 5000 * suc n
 next_time now n = omega arith
 
-pub goes_on : (answers : ℕ → Answer) (peer now : ℕ) (ps : List ℕ) (a e : AskingState) → a.awaited ≡ None → CanBeAsked peer now a → answers peer ≡ Finished → Rounds answers now ps a e → (e.up_to_date ≡ true) ⊎ ((next : ℕ) × (is_next next (now + 5000 * length ps) e ≡ true))
-goes_on answers peer now [] a e none (c, found, can, before) finish rounds = by a.up_to_date refl
+pub goes_on : (answers : ℕ → Answer) (peer now : ℕ) (ps : List ℕ) (a e : AskingState) → a.awaited ≡ None → CanBeAsked peer now a → answers peer ≡ Finished → Rounds answers now ps a e → (e.taught ≡ true) ⊎ ((next : ℕ) × (is_next next (now + 5000 * length ps) e ≡ true))
+goes_on answers peer now [] a e none (c, found, can, before) finish rounds = by a.taught refl
   where
-    by : (b : Bool) → a.up_to_date ≡ b → (e.up_to_date ≡ true) ⊎ ((next : ℕ) × (is_next next (now + 5000 * 0) e ≡ true))
-    by true done = inl (ap AskingState.up_to_date rounds ∙ done)
+    by : (b : Bool) → a.taught ≡ b → (e.taught ≡ true) ⊎ ((next : ℕ) × (is_next next (now + 5000 * 0) e ≡ true))
+    by true done = inl (ap AskingState.taught rounds ∙ done)
     by false behind =
         let next = exists_next now peer a c behind none found can in
         inr (next.0, subst (λ (s : AskingState). is_next next.0 (now + 5000 * 0) s ≡ true) (sym rounds) (subst (λ (m : ℕ). is_next next.0 m a ≡ true) (same_time now) next.1))
@@ -332,6 +346,7 @@ asked_due standings.Asked rested owes h = h
 asked_due standings.Away rested owes h = cc
 asked_due standings.Unasked rested owes h = cc
 asked_due standings.Partial rested owes h = cc
+asked_due standings.Incomplete rested owes h = cc
 
 neither : (a b : Bool) → a ≡ false → b ≡ false → (a || b) ≡ false
 neither true b one other = cc
@@ -359,5 +374,5 @@ none_is_next false false first h = refl
 pub not_asked_meanwhile : (a : AskingState) (c : Candidate) (peer now later : ℕ) → slice_get a.peers peer ≡ Some c → is_asked c.standing ≡ true → is_overdue later c.asked_at ≡ false → later < now + 60000 → is_next peer later (heard peer now a) ≡ false
 not_asked_meanwhile a c peer now later found asked due soon =
     let peers = changed (brought now) peer a.peers in
-    none_is_next a.up_to_date (is_none (heard peer now a).awaited) (is_first later peers (slice_get peers peer))
+    none_is_next a.taught (is_none (heard peer now a).awaited) (is_first later peers (slice_get peers peer))
     (nobody_first later peers (slice_get peers peer) (brought now c) (it_changes (brought now) a.peers peer c found) (not_due c now later asked due soon))

@@ -9,36 +9,41 @@ use Rattle.node_core.specs.declared.asking.Standing.TheVariants as standings
 use Rattle.node_core.specs.declared.asking.Candidate.{Candidate}
 use Rattle.node_core.specs.declared.asking.Awaited.{Awaited}
 use Rattle.node_core.specs.CatchingUp.{AskingState, asked, brought, changed, heard_from, is_mute, is_next, is_no_later, is_over, is_overdue, is_settled, lapsed, owes, still_awaited, stood, unless_it}
-use Rattle.node_core.specs.AskingRuns.{Happening, Begins, Ends, Asks, Brings, Finishes, FinishesPartly, Passes, WasAskedSince, WasLastAsked, after, after_all, after_seconds, are_timely, asked_by, asks_none_after, asks_none_before, is_asked_before, is_end_of, is_timely, looked, was_before}
+use Rattle.node_core.specs.AskingRuns.{Happening, Begins, Ends, Asks, Brings, Finishes, FinishesPartly, FinishesIncompletely, Passes, WasAskedSince, WasLastAsked, after, after_all, after_seconds, are_timely, asked_by, asks_none_after, asks_none_before, is_asked_before, is_end_of, is_timely, looked, was_before}
 use Rattle.node_core.proofs.Waiting.{Are, Leaves, nobody_next, passes_fresh, second_false, step_are}
 use Rattle.node_core.proofs.Rounds.{ahead, ahead_fits, and_true, exists_next, fewer_ahead, is_later, it_changes, itself, made_asked, next_given, no_later_than, one_ahead, others_stay}
 use Rattle.node_core.proofs.Turns.{KeepsTime, Stands, as_many, other_stands, overdue_before, overdue_can, overdue_later, step_stands, time_brought}
 
 -- ---- what stays so
 
-keep_up : (h : Happening) (a : AskingState) → a.up_to_date ≡ true → (after h a).up_to_date ≡ true
+keep_up : (h : Happening) (a : AskingState) → a.taught ≡ true → (after h a).taught ≡ true
 keep_up (Begins peer) a up = up
 keep_up (Ends peer) a up = up
 keep_up (Asks peer now) a up = by (is_next peer now a)
   where
-    by : (b : Bool) → AskingState.up_to_date (cond b (asked peer now a) a) ≡ true
+    by : (b : Bool) → AskingState.taught (cond b (asked peer now a) a) ≡ true
     by true = up
     by false = up
 keep_up (Brings peer now) a up = up
 keep_up (Finishes peer) a up = by (owes (slice_get a.peers peer))
   where
-    by : (b : Bool) → AskingState.up_to_date (cond b (record a { up_to_date = true; awaited = None }) a) ≡ true
+    by : (b : Bool) → AskingState.taught (cond b (record a { taught = true; awaited = None }) a) ≡ true
     by true = refl
     by false = up
 keep_up (FinishesPartly peer) a up = by (owes (slice_get a.peers peer))
   where
-    by : (b : Bool) → AskingState.up_to_date (cond b (stood standings.Partial peer a) a) ≡ true
+    by : (b : Bool) → AskingState.taught (cond b (stood standings.Partial peer a) a) ≡ true
+    by true = up
+    by false = up
+keep_up (FinishesIncompletely peer) a up = by (owes (slice_get a.peers peer))
+  where
+    by : (b : Bool) → AskingState.taught (cond b (stood standings.Incomplete peer a) a) ≡ true
     by true = up
     by false = up
 keep_up (Passes now) a up = by (is_settled now (lapsed now a))
   where
-    by : (b : Bool) → AskingState.up_to_date (cond b (record (lapsed now a) { up_to_date = true; awaited = None }) (lapsed now a)) ≡ true
-    by true = refl
+    by : (b : Bool) → AskingState.taught (cond b (record (lapsed now a) { settled = true }) (lapsed now a)) ≡ true
+    by true = up
     by false = up
 
 -- the peer was asked at this moment or later
@@ -65,7 +70,7 @@ step_since peer now (Asks other when) a times (c, before, found, is, late) = by 
 step_since peer now (Brings other when) a times since = since_still (brought when) a.peers peer other now (time_brought when) since
 step_since peer now (Finishes other) a times since = by (owes (slice_get a.peers other))
   where
-    by : (b : Bool) → Since peer now (AskingState.peers (cond b (record a { up_to_date = true; awaited = None }) a))
+    by : (b : Bool) → Since peer now (AskingState.peers (cond b (record a { taught = true; awaited = None }) a))
     by true = since
     by false = since
 step_since peer now (FinishesPartly other) a times since = by (owes (slice_get a.peers other))
@@ -73,15 +78,20 @@ step_since peer now (FinishesPartly other) a times since = by (owes (slice_get a
     by : (b : Bool) → Since peer now (AskingState.peers (cond b (stood standings.Partial other a) a))
     by true = since_still (λ p. record p { standing = standings.Partial }) a.peers peer other now (λ c. refl) since
     by false = since
+step_since peer now (FinishesIncompletely other) a times since = by (owes (slice_get a.peers other))
+  where
+    by : (b : Bool) → Since peer now (AskingState.peers (cond b (stood standings.Incomplete other a) a))
+    by true = since_still (λ p. record p { standing = standings.Incomplete }) a.peers peer other now (λ c. refl) since
+    by false = since
 step_since peer now (Passes when) a times since = by (is_settled when (lapsed when a))
   where
-    by : (b : Bool) → Since peer now (AskingState.peers (cond b (record (lapsed when a) { up_to_date = true; awaited = None }) (lapsed when a)))
+    by : (b : Bool) → Since peer now (AskingState.peers (cond b (record (lapsed when a) { settled = true }) (lapsed when a)))
     by true = since
     by false = since
 
 -- the node is up to date, or the peer was asked
 abbrev Done : ℕ → ℕ → AskingState → Type 0
-Done peer now a = (a.up_to_date ≡ true) ⊎ Since peer now a.peers
+Done peer now a = (a.taught ≡ true) ⊎ Since peer now a.peers
 
 step_done : (peer now : ℕ) (h : Happening) (a : AskingState) → asks_none_before now h ≡ true → Done peer now a → Done peer now (after h a)
 step_done peer now h a times (inl up) = inl (keep_up h a up)
@@ -94,6 +104,7 @@ earlier now t (Asks peer when) order times = le-leb now when (omega (arith, orde
 earlier now t (Brings peer when) order times = refl
 earlier now t (Finishes peer) order times = refl
 earlier now t (FinishesPartly peer) order times = refl
+earlier now t (FinishesIncompletely peer) order times = refl
 earlier now t (Passes when) order times = refl
 
 not_true : (b : Bool) → not b ≡ true → b ≡ false
@@ -153,6 +164,7 @@ asked_or_not peer now (Asks other when) a times = by (is_next other when a) refl
 asked_or_not peer now (Brings other when) a times = inr refl
 asked_or_not peer now (Finishes other) a times = inr refl
 asked_or_not peer now (FinishesPartly other) a times = inr refl
+asked_or_not peer now (FinishesIncompletely other) a times = inr refl
 asked_or_not peer now (Passes when) a times = inr refl
 
 -- ---- how many peers there are
@@ -173,7 +185,7 @@ step_length (Asks other when) a = by (is_next other when a)
 step_length (Brings other when) a = changed_length (brought when) other a.peers
 step_length (Finishes other) a = by (owes (slice_get a.peers other))
   where
-    by : (b : Bool) → length (AskingState.peers (cond b (record a { up_to_date = true; awaited = None }) a)) ≡ length a.peers
+    by : (b : Bool) → length (AskingState.peers (cond b (record a { taught = true; awaited = None }) a)) ≡ length a.peers
     by true = refl
     by false = refl
 step_length (FinishesPartly other) a = by (owes (slice_get a.peers other))
@@ -181,9 +193,14 @@ step_length (FinishesPartly other) a = by (owes (slice_get a.peers other))
     by : (b : Bool) → length (AskingState.peers (cond b (stood standings.Partial other a) a)) ≡ length a.peers
     by true = changed_length (λ p. record p { standing = standings.Partial }) other a.peers
     by false = refl
+step_length (FinishesIncompletely other) a = by (owes (slice_get a.peers other))
+  where
+    by : (b : Bool) → length (AskingState.peers (cond b (stood standings.Incomplete other a) a)) ≡ length a.peers
+    by true = changed_length (λ p. record p { standing = standings.Incomplete }) other a.peers
+    by false = refl
 step_length (Passes when) a = by (is_settled when (lapsed when a))
   where
-    by : (b : Bool) → length (AskingState.peers (cond b (record (lapsed when a) { up_to_date = true; awaited = None }) (lapsed when a))) ≡ length a.peers
+    by : (b : Bool) → length (AskingState.peers (cond b (record (lapsed when a) { settled = true }) (lapsed when a))) ≡ length a.peers
     by true = refl
     by false = refl
 
@@ -272,7 +289,7 @@ step_limit peer t then (Asks other when) a due from until stands = by (is_next o
 step_limit peer t then (Brings other when) a due from until stands = no_more _ _ _ _ (as_many then (brought when) a.peers other (time_brought when)) (heard_less t other when a.awaited)
 step_limit peer t then (Finishes other) a due from until stands = by (owes (slice_get a.peers other))
   where
-    by : (b : Bool) → limit t then (cond b (record a { up_to_date = true; awaited = None }) a) ≤ limit t then a
+    by : (b : Bool) → limit t then (cond b (record a { taught = true; awaited = None }) a) ≤ limit t then a
     by true = no_more (ahead then a.peers) (ahead then a.peers) t (deadline t a.awaited) refl (at_least t a.awaited)
     by false = same_le (limit t then a)
 step_limit peer t then (FinishesPartly other) a due from until stands = by (owes (slice_get a.peers other))
@@ -280,10 +297,15 @@ step_limit peer t then (FinishesPartly other) a due from until stands = by (owes
     by : (b : Bool) → limit t then (cond b (stood standings.Partial other a) a) ≤ limit t then a
     by true = no_more _ _ _ _ (as_many then (λ p. record p { standing = standings.Partial }) a.peers other (λ c. refl)) (unless_less t other a.awaited)
     by false = same_le (limit t then a)
+step_limit peer t then (FinishesIncompletely other) a due from until stands = by (owes (slice_get a.peers other))
+  where
+    by : (b : Bool) → limit t then (cond b (stood standings.Incomplete other a) a) ≤ limit t then a
+    by true = no_more _ _ _ _ (as_many then (λ p. record p { standing = standings.Incomplete }) a.peers other (λ c. refl)) (unless_less t other a.awaited)
+    by false = same_le (limit t then a)
 step_limit peer t then (Passes when) a due from until stands = by (is_settled when (lapsed when a))
   where
-    by : (b : Bool) → limit t then (cond b (record (lapsed when a) { up_to_date = true; awaited = None }) (lapsed when a)) ≤ limit t then a
-    by true = no_more (ahead then a.peers) (ahead then a.peers) t (deadline t a.awaited) refl (at_least t a.awaited)
+    by : (b : Bool) → limit t then (cond b (record (lapsed when a) { settled = true }) (lapsed when a)) ≤ limit t then a
+    by true = no_more (ahead then a.peers) (ahead then a.peers) (deadline t (still_awaited when a.awaited)) (deadline t a.awaited) refl (still_less t when a.awaited)
     by false = no_more (ahead then a.peers) (ahead then a.peers) (deadline t (still_awaited when a.awaited)) (deadline t a.awaited) refl (still_less t when a.awaited)
 
 run_limit : (peer now t : ℕ) (then : Option ℕ) (hs : List Happening) (a : AskingState) → now ≤ t → is_overdue t then ≡ true → list_all (is_timely peer t) hs ≡ true → Stands peer then a.peers → Done peer now (after_all hs a) ⊎ (Stands peer then (after_all hs a).peers × (limit t then (after_all hs a) ≤ limit t then a))
@@ -341,7 +363,7 @@ offered peer now t (suc n) then a order due stands = one_offered peer now t n th
 passes_peers : (t : ℕ) (a : AskingState) → (after (Passes t) a).peers ≡ a.peers
 passes_peers t a = by (is_settled t (lapsed t a))
   where
-    by : (b : Bool) → AskingState.peers (cond b (record (lapsed t a) { up_to_date = true; awaited = None }) (lapsed t a)) ≡ a.peers
+    by : (b : Bool) → AskingState.peers (cond b (record (lapsed t a) { settled = true }) (lapsed t a)) ≡ a.peers
     by true = refl
     by false = refl
 
@@ -349,7 +371,7 @@ waits_less : (t : ℕ) (w : Awaited) → is_over (t + 1000) w ≡ false → dead
 waits_less t w on = through (max (t + 1000) (w.asked_at + 600000)) (w.asked_at + 600000) (max t (w.asked_at + 600000)) (max-le (omega (arith, leb-false 600000 (t + 1000 - w.asked_at) (second_false (is_mute (t + 1000) w) (nat_le 600000 (t + 1000 - w.asked_at)) on))) (same_le (w.asked_at + 600000))) (le-max_right t (w.asked_at + 600000))
 
 look_limit : (peer now t n : ℕ) (then : Option ℕ) (a : AskingState) → now ≤ t → is_overdue t then ≡ true → Stands peer then a.peers → n ≡ length a.peers → Done peer now (looked (t + 1000) n a) ⊎ (Stands peer then (looked (t + 1000) n a).peers × (limit (t + 1000) then (looked (t + 1000) n a) ≤ limit t then a))
-look_limit peer now t n then a order due stands count = elim (cases_Bool (after (Passes (t + 1000)) a).up_to_date) [
+look_limit peer now t n then a order due stands count = elim (cases_Bool (after (Passes (t + 1000)) a).taught) [
   | inl up ↦ inl (asks_done peer now (t + 1000) n a (later_still now t order) (inl up))
   | inr behind ↦ elim (offered peer now (t + 1000) n then a (later_still now t order) due_then stands_then) [
     | inl done ↦ inl done
@@ -367,7 +389,7 @@ look_limit peer now t n then a order due stands count = elim (cases_Bool (after 
     stands_then : Stands peer then p.peers
     stands_then = step_stands peer then (Passes (t + 1000)) a refl refl stands
 
-    waits : p.up_to_date ≡ false → ((i : ℕ) → i < n → is_next i (t + 1000) p ≡ false) → (o : Option Awaited) → p.awaited ≡ o → limit (t + 1000) then p ≤ limit t then a
+    waits : p.taught ≡ false → ((i : ℕ) → i < n → is_next i (t + 1000) p ≡ false) → (o : Option Awaited) → p.awaited ≡ o → limit (t + 1000) then p ≤ limit t then a
     waits behind none None is =
         let next = exists_next (t + 1000) peer p stands_then.0 behind is stands_then.1 (overdue_can (t + 1000) stands_then.0 stands_then.2 (ap (is_overdue (t + 1000)) stands_then.3 ∙ due_then)) in
         let given = next_given next.0 (t + 1000) p next.1 in
@@ -426,6 +448,7 @@ leaves_before last (Brings other when) until = λ v holds. by v holds (v.peer ==
     by v holds false = holds
 leaves_before last (Finishes other) until = tt
 leaves_before last (FinishesPartly other) until = tt
+leaves_before last (FinishesIncompletely other) until = tt
 leaves_before last (Passes when) until = tt
 
 weaken : (one other : ℕ) (o : Option Awaited) → one ≤ other → Are (IsBefore one) o → Are (IsBefore other) o
@@ -508,11 +531,11 @@ are_before : (now : ℕ) (o : Option Awaited) → is_asked_before now o ≡ true
 are_before now None before = λ w is. cc
 are_before now (Some v) before = λ w is. subst (IsBefore now) (some_same v w is) (leb-true v.asked_at now before)
 
-pub asked_in_time : (a : AskingState) (peer now : ℕ) (then : Option ℕ) (seconds : List (List Happening)) → WasLastAsked peer then a → was_before now then ≡ true → is_asked_before now a.awaited ≡ true → are_timely peer now seconds ≡ true → 660 + 601 * length a.peers ≤ length seconds → ((after_seconds now seconds a).up_to_date ≡ true) ⊎ WasAskedSince peer now (after_seconds now seconds a)
+pub asked_in_time : (a : AskingState) (peer now : ℕ) (then : Option ℕ) (seconds : List (List Happening)) → WasLastAsked peer then a → was_before now then ≡ true → is_asked_before now a.awaited ≡ true → are_timely peer now seconds ≡ true → 660 + 601 * length a.peers ≤ length seconds → ((after_seconds now seconds a).taught ≡ true) ⊎ WasAskedSince peer now (after_seconds now seconds a)
 asked_in_time a peer now then seconds stands before waited times enough = elim (all_seconds peer now 660 now then seconds a (same_le now) (due_by_then now then before) times stands (are_before now a.awaited waited)) [
   | inl done ↦ done
   | inr less ↦ absurd (omega (arith, less, enough))
 ]
 
-pub finished_then : (a : AskingState) (peer : ℕ) → owes (slice_get a.peers peer) ≡ true → (after (Finishes peer) a).up_to_date ≡ true
-finished_then a peer owing = ap (λ (b : Bool). AskingState.up_to_date (cond b (record a { up_to_date = true; awaited = None }) a)) owing
+pub finished_then : (a : AskingState) (peer : ℕ) → owes (slice_get a.peers peer) ≡ true → (after (Finishes peer) a).taught ≡ true
+finished_then a peer owing = ap (λ (b : Bool). AskingState.taught (cond b (record a { taught = true; awaited = None }) a)) owing

@@ -7,8 +7,8 @@ use Rattle.std.proofs.lemmas.Bool.Decides.{nat_tests}
 use Rattle.node_core.specs.declared.asking.Standing.{Standing}
 use Rattle.node_core.specs.declared.asking.Standing.TheVariants as standings
 use Rattle.node_core.specs.declared.asking.Candidate.{Candidate}
-use Rattle.node_core.specs.CatchingUp.{AskingState, asked, brought, can_be_asked, changed, is_asked, is_away, is_due, is_next, is_no_later, is_overdue, is_rested, is_settled, lapsed, owes, stood}
-use Rattle.node_core.specs.AskingRuns.{Happening, Begins, Ends, Asks, Brings, Finishes, FinishesPartly, Passes, CanBeAsked, WasLastAsked, after, after_all, asked_by, asked_by_all, asks_none_before, is_end_of, was_before}
+use Rattle.node_core.specs.CatchingUp.{AskingState, asked, brought, can_be_asked, changed, is_asked, is_due, is_next, is_no_later, is_out, is_overdue, is_rested, is_settled, lapsed, owes, stood}
+use Rattle.node_core.specs.AskingRuns.{Happening, Begins, Ends, Asks, Brings, Finishes, FinishesPartly, FinishesIncompletely, Passes, CanBeAsked, WasLastAsked, after, after_all, asked_by, asked_by_all, asks_none_before, is_end_of, was_before}
 use Rattle.node_core.proofs.Waiting.{another, first_false, second_false}
 use Rattle.node_core.proofs.Rounds.{ahead, ahead_fits, and_true, fewer_ahead, is_later, it_changes, itself, made_asked, next_given, no_later_than, one_ahead, others_stay}
 
@@ -16,7 +16,7 @@ use Rattle.node_core.proofs.Rounds.{ahead, ahead_fits, and_true, fewer_ahead, is
 
 -- the peer has a session, and was last asked then
 abbrev pub Stands : ℕ → Option ℕ → List Candidate → Type 0
-Stands peer asked cs = (c : Candidate) × (slice_get cs peer ≡ Some c) × (is_away c.standing ≡ false) × (c.asked_at ≡ asked)
+Stands peer asked cs = (c : Candidate) × (slice_get cs peer ≡ Some c) × (is_out c.standing ≡ false) × (c.asked_at ≡ asked)
 
 -- whoever else is changed, it stands
 pub other_stands : (f : Candidate → Candidate) (cs : List Candidate) (peer other : ℕ) (t : Option ℕ) → (other ≡ peer → ⊥) → Stands peer t cs → Stands peer t (changed f other cs)
@@ -24,7 +24,7 @@ other_stands f cs peer other t apart (c, found, there, then) = (c, others_stay f
 
 -- a change that leaves a peer its session, and when it was asked
 abbrev pub Keeps : (Candidate → Candidate) → Type 0
-Keeps f = (c : Candidate) → is_away c.standing ≡ false → (is_away (Candidate.standing (f c)) ≡ false) × (Candidate.asked_at (f c) ≡ c.asked_at)
+Keeps f = (c : Candidate) → is_out c.standing ≡ false → (is_out (Candidate.standing (f c)) ≡ false) × (Candidate.asked_at (f c) ≡ c.asked_at)
 
 stands_still : (f : Candidate → Candidate) (cs : List Candidate) (peer other : ℕ) (t : Option ℕ) → Keeps f → Stands peer t cs → Stands peer t (changed f other cs)
 stands_still f cs peer other t keeps (c, found, there, then) = elim (cases_eq other peer) [
@@ -35,7 +35,7 @@ stands_still f cs peer other t keeps (c, found, there, then) = elim (cases_eq ot
 keeps_brought : (now : ℕ) → Keeps (brought now)
 keeps_brought now c there = by (is_asked c.standing)
   where
-    by : (b : Bool) → (is_away (Candidate.standing (cond b (record c { since = Some now }) c)) ≡ false) × (Candidate.asked_at (cond b (record c { since = Some now }) c) ≡ c.asked_at)
+    by : (b : Bool) → (is_out (Candidate.standing (cond b (record c { since = Some now }) c)) ≡ false) × (Candidate.asked_at (cond b (record c { since = Some now }) c) ≡ c.asked_at)
     by true = (there, refl)
     by false = (there, refl)
 
@@ -50,7 +50,7 @@ step_stands peer t (Asks other now) a stays none stands = by (is_next other now 
 step_stands peer t (Brings other now) a stays none stands = stands_still (brought now) a.peers peer other t (keeps_brought now) stands
 step_stands peer t (Finishes other) a stays none stands = by (owes (slice_get a.peers other))
   where
-    by : (b : Bool) → Stands peer t (AskingState.peers (cond b (record a { up_to_date = true; awaited = None }) a))
+    by : (b : Bool) → Stands peer t (AskingState.peers (cond b (record a { taught = true; awaited = None }) a))
     by true = stands
     by false = stands
 step_stands peer t (FinishesPartly other) a stays none stands = by (owes (slice_get a.peers other))
@@ -58,9 +58,14 @@ step_stands peer t (FinishesPartly other) a stays none stands = by (owes (slice_
     by : (b : Bool) → Stands peer t (AskingState.peers (cond b (stood standings.Partial other a) a))
     by true = stands_still (λ p. record p { standing = standings.Partial }) a.peers peer other t (λ c there. (refl, refl)) stands
     by false = stands
+step_stands peer t (FinishesIncompletely other) a stays none stands = by (owes (slice_get a.peers other))
+  where
+    by : (b : Bool) → Stands peer t (AskingState.peers (cond b (stood standings.Incomplete other a) a))
+    by true = other_stands (λ p. record p { standing = standings.Incomplete }) a.peers peer other t (another other peer stays) stands
+    by false = stands
 step_stands peer t (Passes now) a stays none stands = by (is_settled now (lapsed now a))
   where
-    by : (b : Bool) → Stands peer t (AskingState.peers (cond b (record (lapsed now a) { up_to_date = true; awaited = None }) (lapsed now a)))
+    by : (b : Bool) → Stands peer t (AskingState.peers (cond b (record (lapsed now a) { settled = true }) (lapsed now a)))
     by true = stands
     by false = stands
 
@@ -82,17 +87,18 @@ run_stands peer t (h ∷ hs) a stays none stands =
 
 -- ---- asked again
 
-due_if_there : (s : Standing) → is_away s ≡ false → is_due s true ≡ true
+due_if_there : (s : Standing) → is_out s ≡ false → is_due s true ≡ true
 due_if_there standings.Away there = cc
 due_if_there standings.Unasked there = refl
 due_if_there standings.Asked there = refl
 due_if_there standings.Partial there = refl
+due_if_there standings.Incomplete there = cc
 
 or_other : (a b : Bool) → b ≡ true → (a || b) ≡ true
 or_other true b h = refl
 or_other false b h = h
 
-pub overdue_can : (now : ℕ) (c : Candidate) → is_away c.standing ≡ false → is_overdue now c.asked_at ≡ true → can_be_asked now c ≡ true
+pub overdue_can : (now : ℕ) (c : Candidate) → is_out c.standing ≡ false → is_overdue now c.asked_at ≡ true → can_be_asked now c ≡ true
 overdue_can now c there due = ap (is_due c.standing) (or_other (is_rested now c.since) (is_overdue now c.asked_at) due) ∙ due_if_there c.standing there
 
 pub overdue_before : (now later : ℕ) (t : Option ℕ) → is_overdue now t ≡ true → now ≤ later → was_before later t ≡ true
@@ -158,7 +164,7 @@ step_ahead peer now t (Asks other then) a due times (c, found, there, was) = by 
 step_ahead peer now t (Brings other then) a due times stands = none_more _ _ (as_many t (brought then) a.peers other (time_brought then))
 step_ahead peer now t (Finishes other) a due times stands = none_more _ _ (by (owes (slice_get a.peers other)))
   where
-    by : (b : Bool) → ahead t (AskingState.peers (cond b (record a { up_to_date = true; awaited = None }) a)) ≡ ahead t a.peers
+    by : (b : Bool) → ahead t (AskingState.peers (cond b (record a { taught = true; awaited = None }) a)) ≡ ahead t a.peers
     by true = refl
     by false = refl
 step_ahead peer now t (FinishesPartly other) a due times stands = none_more _ _ (by (owes (slice_get a.peers other)))
@@ -166,9 +172,14 @@ step_ahead peer now t (FinishesPartly other) a due times stands = none_more _ _ 
     by : (b : Bool) → ahead t (AskingState.peers (cond b (stood standings.Partial other a) a)) ≡ ahead t a.peers
     by true = as_many t (λ p. record p { standing = standings.Partial }) a.peers other (λ c. refl)
     by false = refl
+step_ahead peer now t (FinishesIncompletely other) a due times stands = none_more _ _ (by (owes (slice_get a.peers other)))
+  where
+    by : (b : Bool) → ahead t (AskingState.peers (cond b (stood standings.Incomplete other a) a)) ≡ ahead t a.peers
+    by true = as_many t (λ p. record p { standing = standings.Incomplete }) a.peers other (λ c. refl)
+    by false = refl
 step_ahead peer now t (Passes then) a due times stands = none_more _ _ (by (is_settled then (lapsed then a)))
   where
-    by : (b : Bool) → ahead t (AskingState.peers (cond b (record (lapsed then a) { up_to_date = true; awaited = None }) (lapsed then a))) ≡ ahead t a.peers
+    by : (b : Bool) → ahead t (AskingState.peers (cond b (record (lapsed then a) { settled = true }) (lapsed then a))) ≡ ahead t a.peers
     by true = refl
     by false = refl
 

@@ -7,7 +7,7 @@ use Rattle.std.proofs.lemmas.Bool.Decides.{nat_tests}
 use Rattle.node_core.specs.declared.asking.Standing.TheVariants as standings
 use Rattle.node_core.specs.declared.asking.Awaited.{Awaited}
 use Rattle.node_core.specs.CatchingUp.{AskingState, asked, heard, heard_from, is_first, is_mute, is_next, is_over, is_settled, lapsed, owes, still_awaited, stood, unless_it}
-use Rattle.node_core.specs.AskingRuns.{Happening, Begins, Ends, Asks, Brings, Finishes, FinishesPartly, Passes, IsAwaited, after, after_all, is_asking, is_from, may_end}
+use Rattle.node_core.specs.AskingRuns.{Happening, Begins, Ends, Asks, Brings, Finishes, FinishesPartly, FinishesIncompletely, Passes, IsAwaited, after, after_all, is_asking, is_from, may_end}
 
 -- ---- nobody else is asked
 
@@ -17,7 +17,7 @@ none_next false None w first is = cc
 none_next false (Some v) w first is = refl
 
 pub nobody_next : (a : AskingState) (w : Awaited) (peer now : ℕ) → a.awaited ≡ Some w → is_next peer now a ≡ false
-nobody_next a w peer now is = none_next a.up_to_date a.awaited w (is_first now a.peers (slice_get a.peers peer)) is
+nobody_next a w peer now is = none_next a.taught a.awaited w (is_first now a.peers (slice_get a.peers peer)) is
 
 -- ---- who is waited for still is
 
@@ -50,16 +50,22 @@ waits_on a w (FinishesPartly peer) is may = (w, by (owes (slice_get a.peers peer
     by : (b : Bool) → AskingState.awaited (cond b (stood standings.Partial peer a) a) ≡ Some w
     by true = kept_unless a.awaited w peer is may
     by false = is
+waits_on a w (FinishesIncompletely peer) is may = (w, by (owes (slice_get a.peers peer)), refl)
+  where
+    by : (b : Bool) → AskingState.awaited (cond b (stood standings.Incomplete peer a) a) ≡ Some w
+    by true = kept_unless a.awaited w peer is may
+    by false = is
 waits_on a w (Passes now) is may = (w, still, refl)
   where
-    not_over : is_over now w ≡ false
-    not_over = first_false (is_over now w) (is_settled now a) may
-
     waited : still_awaited now a.awaited ≡ Some w
-    waited = rw is (rw not_over refl)
+    waited = rw is (rw may refl)
+
+    by : (b : Bool) → AskingState.awaited (cond b (record (lapsed now a) { settled = true }) (lapsed now a)) ≡ Some w
+    by true = waited
+    by false = waited
 
     still : (after (Passes now) a).awaited ≡ Some w
-    still = ap (λ (b : Bool). AskingState.awaited (cond b (record (lapsed now a) { up_to_date = true; awaited = None }) (lapsed now a))) (second_false (is_over now w) (is_settled now a) may) ∙ waited
+    still = by (is_settled now (lapsed now a))
 
 -- ---- what stays of who is waited for
 
@@ -75,6 +81,7 @@ Leaves P (Asks other now) = P (record { peer = other; asked_at = now; since = no
 Leaves P (Brings other now) = (v : Awaited) → P v → P (heard_from other now v)
 Leaves P (Finishes other) = Unit {0}
 Leaves P (FinishesPartly other) = Unit {0}
+Leaves P (FinishesIncompletely other) = Unit {0}
 Leaves P (Passes now) = Unit {0}
 
 some_same : (v w : Awaited) → Some v ≡ Some w → v ≡ w
@@ -100,8 +107,8 @@ still_are P now (Some v) are w is = by (is_over now v) is
     by true is = cc
     by false is = are w is
 
-passes_are : (P : Awaited → Type 0) (now : ℕ) (b : Bool) (a : AskingState) → Are P a.awaited → Are P (AskingState.awaited (cond b (record (lapsed now a) { up_to_date = true; awaited = None }) (lapsed now a)))
-passes_are P now true a are w is = cc
+passes_are : (P : Awaited → Type 0) (now : ℕ) (b : Bool) (a : AskingState) → Are P a.awaited → Are P (AskingState.awaited (cond b (record (lapsed now a) { settled = true }) (lapsed now a)))
+passes_are P now true a are w is = still_are P now a.awaited are w is
 passes_are P now false a are w is = still_are P now a.awaited are w is
 
 pub step_are : (P : Awaited → Type 0) (a : AskingState) (h : Happening) → Leaves P h → Are P a.awaited → Are P (after h a).awaited
@@ -115,12 +122,17 @@ step_are P a (Asks other now) leaves are = by (is_next other now a)
 step_are P a (Brings other now) leaves are = heard_are P other now a.awaited leaves are
 step_are P a (Finishes other) leaves are = by (owes (slice_get a.peers other))
   where
-    by : (b : Bool) → Are P (AskingState.awaited (cond b (record a { up_to_date = true; awaited = None }) a))
+    by : (b : Bool) → Are P (AskingState.awaited (cond b (record a { taught = true; awaited = None }) a))
     by true = λ w is. cc
     by false = are
 step_are P a (FinishesPartly other) leaves are = by (owes (slice_get a.peers other))
   where
     by : (b : Bool) → Are P (AskingState.awaited (cond b (stood standings.Partial other a) a))
+    by true = unless_are P other a.awaited are
+    by false = are
+step_are P a (FinishesIncompletely other) leaves are = by (owes (slice_get a.peers other))
+  where
+    by : (b : Bool) → Are P (AskingState.awaited (cond b (stood standings.Incomplete other a) a))
     by true = unless_are P other a.awaited are
     by false = are
 step_are P a (Passes now) leaves are = passes_are P now (is_settled now a) a are
@@ -140,8 +152,8 @@ lapsed_fresh now (Some v) w is = by (is_over now v) refl is
     by true over is = cc
     by false over is = (is, subst (λ (x : Awaited). is_over now x ≡ false) (some_same v w is) over)
 
-pub passes_fresh : (now : ℕ) (b : Bool) (a : AskingState) (w : Awaited) → AskingState.awaited (cond b (record (lapsed now a) { up_to_date = true; awaited = None }) (lapsed now a)) ≡ Some w → (a.awaited ≡ Some w) × (is_over now w ≡ false)
-passes_fresh now true a w is = cc
+pub passes_fresh : (now : ℕ) (b : Bool) (a : AskingState) (w : Awaited) → AskingState.awaited (cond b (record (lapsed now a) { settled = true }) (lapsed now a)) ≡ Some w → (a.awaited ≡ Some w) × (is_over now w ≡ false)
+passes_fresh now true a w is = lapsed_fresh now a.awaited w is
 passes_fresh now false a w is = lapsed_fresh now a.awaited w is
 
 -- the peer that is asked is waited for as it is then
@@ -170,6 +182,7 @@ leaves_since peer since (Brings other now) apart = λ v holds. by v holds (v.pee
     by v holds false equal = holds
 leaves_since peer since (Finishes other) apart = tt
 leaves_since peer since (FinishesPartly other) apart = tt
+leaves_since peer since (FinishesIncompletely other) apart = tt
 leaves_since peer since (Passes now) apart = tt
 
 leaves_asked : (peer when : ℕ) (h : Happening) → is_asking peer h ≡ false → Leaves (WasAsked peer when) h
@@ -183,6 +196,7 @@ leaves_asked peer when (Brings other now) apart = λ v holds. by v holds (v.peer
     by v holds false = holds
 leaves_asked peer when (Finishes other) apart = tt
 leaves_asked peer when (FinishesPartly other) apart = tt
+leaves_asked peer when (FinishesIncompletely other) apart = tt
 leaves_asked peer when (Passes now) apart = tt
 
 pub mute_ends : (a : AskingState) (peer since now : ℕ) (hs : List Happening) → is_next peer since a ≡ true → list_any (is_from peer) hs ≡ false → since + 5000 ≤ now → IsAwaited peer (after (Passes now) (after_all hs (after (Asks peer since) a))) → ⊥

@@ -4,10 +4,10 @@ use Rattle.std.specs.List.{list_all}
 use Rattle.node_core.specs.declared.asking.Standing.TheVariants as standings
 use Rattle.node_core.specs.declared.asking.Candidate.{Candidate}
 use Rattle.node_core.specs.declared.asking.Awaited.{Awaited}
-use Rattle.node_core.specs.CatchingUp.{AskingState, asked, asked_if_next, can_be_asked, finished, heard, is_away, is_next, is_over, is_settled, lapsed, partly_finished, settled, stood}
+use Rattle.node_core.specs.CatchingUp.{AskingState, asked, asked_if_next, can_be_asked, finished, heard, incompletely_finished, is_next, is_out, is_over, lapsed, partly_finished, settled, stood}
 
 -- What happens: a session with a peer begins or ends; a peer is asked at a moment if it is next; it brings a row at a moment; it ends
--- its resync as finished, or as partial; the time is noted.
+-- its resync as finished, as finished but for tables that it doesn't define as this node does, or as partial; the time is noted.
 pub data Happening : Type 0 where
   Begins : ℕ → Happening
   Ends : ℕ → Happening
@@ -15,6 +15,7 @@ pub data Happening : Type 0 where
   Brings : ℕ → ℕ → Happening
   Finishes : ℕ → Happening
   FinishesPartly : ℕ → Happening
+  FinishesIncompletely : ℕ → Happening
   Passes : ℕ → Happening
 
 -- the node after it
@@ -25,6 +26,7 @@ after (Asks peer now) a = asked_if_next peer now a
 after (Brings peer now) a = heard peer now a
 after (Finishes peer) a = finished peer a
 after (FinishesPartly peer) a = partly_finished peer a
+after (FinishesIncompletely peer) a = incompletely_finished peer a
 after (Passes now) a = settled now (lapsed now a)
 
 abbrev pub after_all : List Happening → AskingState → AskingState
@@ -39,6 +41,7 @@ is_asking peer (Asks other now) = other == peer
 is_asking peer (Brings other now) = false
 is_asking peer (Finishes other) = false
 is_asking peer (FinishesPartly other) = false
+is_asking peer (FinishesIncompletely other) = false
 is_asking peer (Passes now) = false
 
 -- the peer brings a row, or is asked
@@ -49,10 +52,11 @@ is_from peer (Asks other now) = other == peer
 is_from peer (Brings other now) = other == peer
 is_from peer (Finishes other) = false
 is_from peer (FinishesPartly other) = false
+is_from peer (FinishesIncompletely other) = false
 is_from peer (Passes now) = false
 
--- the wait for a peer may end: some peer ends its resync as finished, this one as partial, its session ends or another one of it
--- begins, or it has been mute for 5 s or was asked ten minutes ago, or all have taught what they have
+-- the wait for a peer may end: some peer ends its resync as finished, this one in any way, its session ends or another one of it begins,
+-- or it has been mute for 5 s or was asked ten minutes ago
 abbrev pub may_end : AskingState → Awaited → Happening → Bool
 may_end a w (Begins peer) = w.peer == peer
 may_end a w (Ends peer) = w.peer == peer
@@ -60,9 +64,10 @@ may_end a w (Asks peer now) = false
 may_end a w (Brings peer now) = false
 may_end a w (Finishes peer) = true
 may_end a w (FinishesPartly peer) = w.peer == peer
-may_end a w (Passes now) = is_over now w || is_settled now a
+may_end a w (FinishesIncompletely peer) = w.peer == peer
+may_end a w (Passes now) = is_over now w
 
--- the session with the peer ends
+-- the session with the peer ends, or the peer shows on it that it can't teach all
 abbrev pub is_end_of : ℕ → Happening → Bool
 is_end_of peer (Begins other) = false
 is_end_of peer (Ends other) = other == peer
@@ -70,6 +75,7 @@ is_end_of peer (Asks other now) = false
 is_end_of peer (Brings other now) = false
 is_end_of peer (Finishes other) = false
 is_end_of peer (FinishesPartly other) = false
+is_end_of peer (FinishesIncompletely other) = other == peer
 is_end_of peer (Passes now) = false
 
 -- nobody is asked before this moment
@@ -80,6 +86,7 @@ asks_none_before now (Asks peer when) = nat_le now when
 asks_none_before now (Brings peer when) = true
 asks_none_before now (Finishes peer) = true
 asks_none_before now (FinishesPartly peer) = true
+asks_none_before now (FinishesIncompletely peer) = true
 asks_none_before now (Passes when) = true
 
 -- the peer that is asked by it, if one is
@@ -90,6 +97,7 @@ asked_by (Asks peer now) a = if is_next peer now a then peer ∷ [] else []
 asked_by (Brings peer now) a = []
 asked_by (Finishes peer) a = []
 asked_by (FinishesPartly peer) a = []
+asked_by (FinishesIncompletely peer) a = []
 asked_by (Passes now) a = []
 
 -- the peers that are asked, one after another
@@ -103,16 +111,19 @@ IsAwaited peer a = (w : Awaited) × (a.awaited ≡ Some w) × (w.peer ≡ peer)
 
 -- ---- rounds
 
--- What a peer does that is asked: it ends its resync as finished, or as partial, or does nothing.
+-- What a peer does that is asked: it ends its resync as finished, as partial, or as finished but for tables that it doesn't define as this
+-- node does, or does nothing.
 pub data Answer : Type 0 where
   Finished : Answer
   Partial : Answer
+  Incomplete : Answer
   Nothing : Answer
 
 -- the node once the peer that it asked has answered, or the time that it has for that is over
 abbrev pub answered : Answer → ℕ → ℕ → AskingState → AskingState
 answered Finished peer now a = finished peer a
 answered Partial peer now a = partly_finished peer a
+answered Incomplete peer now a = incompletely_finished peer a
 answered Nothing peer now a = lapsed now a
 
 -- Each 5 s a peer that is next is asked, and answers in its way.
@@ -128,13 +139,13 @@ was_before now (Some asked) = nat_lt asked now
 abbrev pub CanBeAsked : ℕ → ℕ → AskingState → Type 0
 CanBeAsked peer now a = (c : Candidate) × (slice_get a.peers peer ≡ Some c) × (can_be_asked now c ≡ true) × (was_before now c.asked_at ≡ true)
 
--- the peer has a session, and nothing that the node remembers of it is of a later moment
+-- the peer has a session, on which it hasn't shown that it can't teach all, and nothing that the node remembers of it is of a later moment
 abbrev pub HasSession : ℕ → ℕ → AskingState → Type 0
-HasSession peer now a = (c : Candidate) × (slice_get a.peers peer ≡ Some c) × (c.standing ≡ standings.Away → ⊥) × (was_before (now + 1) c.asked_at ≡ true) × (was_before (now + 1) c.since ≡ true)
+HasSession peer now a = (c : Candidate) × (slice_get a.peers peer ≡ Some c) × (is_out c.standing ≡ false) × (was_before (now + 1) c.asked_at ≡ true) × (was_before (now + 1) c.since ≡ true)
 
--- the peer has a session, and was last asked then, if it ever was
+-- the peer has a session, on which it hasn't shown that it can't teach all, and was last asked then, if it ever was
 abbrev pub WasLastAsked : ℕ → Option ℕ → AskingState → Type 0
-WasLastAsked peer asked a = (c : Candidate) × (slice_get a.peers peer ≡ Some c) × (is_away c.standing ≡ false) × (c.asked_at ≡ asked)
+WasLastAsked peer asked a = (c : Candidate) × (slice_get a.peers peer ≡ Some c) × (is_out c.standing ≡ false) × (c.asked_at ≡ asked)
 
 abbrev pub is_heard_before : ℕ → Option Awaited → Bool
 is_heard_before now None = true
@@ -150,6 +161,7 @@ asks_none_after now (Asks peer when) = nat_le when now
 asks_none_after now (Brings peer when) = true
 asks_none_after now (Finishes peer) = true
 asks_none_after now (FinishesPartly peer) = true
+asks_none_after now (FinishesIncompletely peer) = true
 asks_none_after now (Passes when) = true
 
 -- it can happen in the second from this moment on while the session with the peer stands

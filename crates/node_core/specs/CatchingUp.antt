@@ -8,11 +8,17 @@ use Rattle.node_core.specs.declared.asking.Awaited.{Awaited}
 use Rattle.node_core.specs.declared.asking.WaitEnd.{WaitEnd}
 use Rattle.node_core.specs.declared.asking.WaitEnd.TheVariants as waits
 
--- Whether the node is up to date; the peer that is waited for, when it was asked, and since when it has been silent; and how each peer stands.
+-- Whether the node has been taught all rows, or has settled for what its peers have; the peer that is waited for, when it was asked, and
+-- since when it has been silent; and how each peer stands.
 pub record AskingState : Type 0 where
-  pub up_to_date : Bool
+  pub taught : Bool
+  pub settled : Bool
   pub awaited : Option Awaited
   pub peers : List Candidate
+
+-- it has been taught all rows, or nobody has more to teach
+abbrev pub is_up_to_date : AskingState → Bool
+is_up_to_date a = a.taught || a.settled
 
 -- ---- the next peer
 
@@ -31,8 +37,10 @@ is_due standings.Away rested = false
 is_due standings.Unasked rested = true
 is_due standings.Asked rested = rested
 is_due standings.Partial rested = rested
+is_due standings.Incomplete rested = false
 
--- the peer has a session, and wasn't asked on it, or has been quiet for a minute, or was asked eleven minutes ago
+-- the peer has a session, and wasn't asked on it, or has been quiet for a minute, or was asked eleven minutes ago, unless it has shown on
+-- it that it can't teach all
 abbrev pub can_be_asked : ℕ → Candidate → Bool
 can_be_asked now p = is_due p.standing (is_rested now p.since || is_overdue now p.asked_at)
 
@@ -47,9 +55,9 @@ abbrev pub is_first : ℕ → List Candidate → Option Candidate → Bool
 is_first now peers None = false
 is_first now peers (Some p) = can_be_asked now p && list_all (λ q. not (can_be_asked now q) || is_no_later p.asked_at q.asked_at) peers
 
--- the peer is to be asked now: the node isn't up to date, nobody is waited for, and this peer is first
+-- the peer is to be asked now: the node hasn't been taught all rows, nobody is waited for, and this peer is first
 abbrev pub is_next : ℕ → ℕ → AskingState → Bool
-is_next peer now a = not a.up_to_date && (is_none a.awaited && is_first now a.peers (slice_get a.peers peer))
+is_next peer now a = not a.taught && (is_none a.awaited && is_first now a.peers (slice_get a.peers peer))
 
 -- ---- what becomes of it
 
@@ -83,6 +91,7 @@ is_asked standings.Asked = true
 is_asked standings.Away = false
 is_asked standings.Unasked = false
 is_asked standings.Partial = false
+is_asked standings.Incomplete = false
 
 -- the peer was asked on its session, and hasn't answered
 abbrev pub owes : Option Candidate → Bool
@@ -91,15 +100,19 @@ owes (Some p) = is_asked p.standing
 
 -- a peer that was asked has taught all rows, however late
 abbrev pub finished : ℕ → AskingState → AskingState
-finished peer a = if owes (slice_get a.peers peer) then record a { up_to_date = true; awaited = None } else a
+finished peer a = if owes (slice_get a.peers peer) then record a { taught = true; awaited = None } else a
 
 -- the node becomes up to date by that
 abbrev pub is_done_by : ℕ → AskingState → Bool
-is_done_by peer a = owes (slice_get a.peers peer) && not a.up_to_date
+is_done_by peer a = owes (slice_get a.peers peer) && not (is_up_to_date a)
 
 -- a peer that was asked has taught what it has, which isn't all
 abbrev pub partly_finished : ℕ → AskingState → AskingState
 partly_finished peer a = if owes (slice_get a.peers peer) then stood standings.Partial peer a else a
+
+-- a peer that was asked has taught all rows but those of tables that it doesn't define as this node does
+abbrev pub incompletely_finished : ℕ → AskingState → AskingState
+incompletely_finished peer a = if owes (slice_get a.peers peer) then stood standings.Incomplete peer a else a
 
 -- a peer has brought a row: it isn't mute, if it is waited for
 abbrev pub heard_from : ℕ → ℕ → Awaited → Awaited
@@ -150,20 +163,31 @@ is_away standings.Away = true
 is_away standings.Unasked = false
 is_away standings.Asked = false
 is_away standings.Partial = false
+is_away standings.Incomplete = false
 
-abbrev pub is_partial : Standing → Bool
-is_partial standings.Partial = true
-is_partial standings.Away = false
-is_partial standings.Unasked = false
-is_partial standings.Asked = false
+-- the peer can't be asked: it has no session, or has shown on it that it can't teach all
+abbrev pub is_out : Standing → Bool
+is_out standings.Away = true
+is_out standings.Unasked = false
+is_out standings.Asked = false
+is_out standings.Partial = false
+is_out standings.Incomplete = true
 
--- all peers with a session have answered that they have taught what they have, and there is one
-abbrev pub are_partial : List Candidate → Bool
-are_partial peers = list_any (λ p. is_partial p.standing) peers && list_all (λ p. is_away p.standing || is_partial p.standing) peers
+-- the peer has taught what it has, which isn't all
+abbrev pub has_answered : Standing → Bool
+has_answered standings.Partial = true
+has_answered standings.Incomplete = true
+has_answered standings.Away = false
+has_answered standings.Unasked = false
+has_answered standings.Asked = false
+
+-- all peers with a session have taught what they have, and there is one
+abbrev pub have_answered : List Candidate → Bool
+have_answered peers = list_any (λ p. has_answered p.standing) peers && list_all (λ p. is_away p.standing || has_answered p.standing) peers
 
 -- nobody has more to teach: all peers with a session have taught what they have, and they are all, or have had 5 s to come
 abbrev pub is_settled : ℕ → AskingState → Bool
-is_settled now a = not a.up_to_date && ((nat_le 5000 now || list_all (λ p. not (is_away p.standing)) a.peers) && are_partial a.peers)
+is_settled now a = not (is_up_to_date a) && ((nat_le 5000 now || list_all (λ p. not (is_away p.standing)) a.peers) && have_answered a.peers)
 
 abbrev pub settled : ℕ → AskingState → AskingState
-settled now a = if is_settled now a then record a { up_to_date = true; awaited = None } else a
+settled now a = if is_settled now a then record a { settled = true } else a

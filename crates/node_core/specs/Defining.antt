@@ -12,6 +12,7 @@ first_or now (Some first) = first
 -- a resync has ended that the peer taught
 abbrev pub ended : ℕ → ResyncEnd → Defining → Defining
 ended now resyncs.Finished d = record d { has_taught = true; finished = Some (first_or now d.finished) }
+ended now resyncs.Incomplete d = record d { has_taught = true; finished = Some (first_or now d.finished) }
 ended now resyncs.Partial d = record d { has_taught = true }
 ended now resyncs.Broken d = d
 

@@ -1,9 +1,9 @@
-//! Whom a node that isn't up to date asks for all rows.
+//! Whom a node that hasn't been taught all rows asks for them.
 
-ghost use Rattle.std.specs.Prelude.{◌≡◌, ◌==◌, ◌||◌, not, IfOk, None, Some, replicate, slice_get};
+ghost use Rattle.std.specs.Prelude.{◌≡◌, ◌==◌, ◌||◌, false, not, IfOk, None, Some, replicate, slice_get};
 ghost use Rattle.std.specs.List.{list_all, list_any};
 ghost use Rattle.node_core.specs.declared.asking.Standing.TheVariants as standings;
-ghost use Rattle.node_core.specs.CatchingUp.{are_partial, asked_if_next, brought, can_be_asked, changed, finished, heard, is_asked, is_away, is_done_by, is_first, is_mute, is_next, is_no_later, is_over, is_overdue, is_partial, is_rested, is_settled, lapsed, owes, partly_finished, settled, stood, unanswered, wait_end, waited_anew};
+ghost use Rattle.node_core.specs.CatchingUp.{asked_if_next, brought, can_be_asked, changed, finished, has_answered, have_answered, heard, incompletely_finished, is_asked, is_away, is_done_by, is_first, is_mute, is_next, is_no_later, is_over, is_overdue, is_rested, is_settled, is_up_to_date, lapsed, owes, partly_finished, settled, stood, unanswered, wait_end, waited_anew};
 
 use std::alloc::{AllocError, Global};
 use std::marker::Model;
@@ -34,6 +34,8 @@ pub enum Standing {
     Asked,
     /// It was asked on its session, and answered that it taught what it has, which isn't all.
     Partial,
+    /// It was asked on its session, and has taught all rows, but for tables that it defines otherwise than this node, or not at all.
+    Incomplete,
 }
 
 impl Standing {
@@ -51,11 +53,11 @@ impl Standing {
         matches!(self, Standing::Asked)
     }
 
-    /// Returns whether the peer has answered in part.
-    fn is_partial(self) -> bool
-        ensures { result ≡ is_partial self }
+    /// Returns whether the peer has taught what it has, which isn't all.
+    fn has_answered(self) -> bool
+        ensures { result ≡ has_answered self }
     {
-        matches!(self, Standing::Partial)
+        matches!(self, Standing::Partial | Standing::Incomplete)
     }
 }
 
@@ -94,10 +96,15 @@ pub enum WaitEnd {
 /// It asks one peer at a time, and of those that can be asked the one that was asked longest ago. It waits for a peer until that
 /// ends its resync, loses its session, or has brought no row for `PATIENCE`, and for `LONGEST` in all; an end that comes later counts
 /// all the same. A peer that didn't answer, or only in part, can be asked again a minute after it was asked or last brought a row, at the
-/// latest `LATEST` after it was asked, or on its next session. The node is up to date once a peer ends its resync as finished, or all that have a session have ended it as partial.
+/// latest `LATEST` after it was asked, or on its next session; one that defines a table otherwise than this node, or not at all, only on its
+/// next session, since on this one it defines it no other way. The node asks until a peer has taught it all rows. It is up to date from then
+/// on, or once all peers with a session have taught what they have.
 #[derive(Drop)]
 pub struct Asking {
-    up_to_date: bool,
+    /// Whether a peer has taught all rows, or there is no peer.
+    taught: bool,
+    /// Whether the node took itself to be up to date since nobody had more to teach.
+    settled: bool,
     awaited: Option<Awaited>,
     /// The peers, in the configuration's order.
     peers: Vec<Candidate>,
@@ -108,7 +115,7 @@ impl Model for Asking {
 
     ghost Value = { AskingState };
 
-    ghost view = { λ a. record { up_to_date = a.up_to_date; awaited = a.awaited; peers = a.peers.items } };
+    ghost view = { λ a. record { taught = a.taught; settled = a.settled; awaited = a.awaited; peers = a.peers.items } };
 }
 
 /// Returns whether `PAUSE` has passed since a moment, if there is one.
@@ -148,7 +155,7 @@ impl Candidate {
         ensures { result ≡ can_be_asked now self }
     {
         match self.standing {
-            Standing::Away => false,
+            Standing::Away | Standing::Incomplete => false,
             Standing::Unasked => true,
             Standing::Asked | Standing::Partial => {
                 is_rested(self.since, now) || is_overdue(self.asked_at, now)
@@ -234,31 +241,31 @@ fn set_brought(peers: &mut [Candidate], peer: usize, now: u64)
     }
 }
 
-/// Returns whether all peers that have a session have answered in part, and there is one.
-fn are_partial(peers: &[Candidate]) -> bool
-    ensures { result ≡ are_partial peers.now }
+/// Returns whether all peers that have a session have taught what they have, and there is one.
+fn have_answered(peers: &[Candidate]) -> bool
+    ensures { result ≡ have_answered peers.now }
 {
-    any_partial(peers) && all_partial(peers)
+    any_answered(peers) && all_answered(peers)
 }
 
-/// Returns whether some peer has answered in part.
-fn any_partial(peers: &[Candidate]) -> bool
-    ensures { result ≡ list_any (λ p. is_partial p.standing) peers.now }
+/// Returns whether some peer has taught what it has, which isn't all.
+fn any_answered(peers: &[Candidate]) -> bool
+    ensures { result ≡ list_any (λ p. has_answered p.standing) peers.now }
 {
     for peer in peers {
-        if peer.standing.is_partial() {
+        if peer.standing.has_answered() {
             return true;
         }
     }
     false
 }
 
-/// Returns whether all peers that have a session have answered in part.
-fn all_partial(peers: &[Candidate]) -> bool
-    ensures { result ≡ list_all (λ p. is_away p.standing || is_partial p.standing) peers.now }
+/// Returns whether all peers that have a session have taught what they have.
+fn all_answered(peers: &[Candidate]) -> bool
+    ensures { result ≡ list_all (λ p. is_away p.standing || has_answered p.standing) peers.now }
 {
     for peer in peers {
-        if !(peer.standing.is_away() || peer.standing.is_partial()) {
+        if !(peer.standing.is_away() || peer.standing.has_answered()) {
             return false;
         }
     }
@@ -307,7 +314,8 @@ impl Awaited {
 impl Asking {
     /// Returns how a node with `peers` peers begins. Without peers it is up to date at once.
     pub fn new(alloc: Global, peers: usize) -> Result<Asking, AllocError>
-        ensures up_to_date { IfOk result (λ asking. asking.up_to_date ≡ (peers == 0)) }
+        ensures taught { IfOk result (λ asking. asking.taught ≡ (peers == 0)) }
+        ensures settled { IfOk result (λ asking. asking.settled ≡ false) }
         ensures awaited { IfOk result (λ asking. asking.awaited ≡ None) }
         ensures peers { IfOk result (λ asking. asking.peers ≡ replicate peers (record { standing = standings.Away; asked_at = None; since = None })) }
     {
@@ -317,7 +325,8 @@ impl Asking {
             since: None,
         };
         Ok(Asking {
-            up_to_date: peers == 0,
+            taught: peers == 0,
+            settled: false,
             awaited: None,
             peers: vec![in alloc; away; peers]?,
         })
@@ -325,9 +334,16 @@ impl Asking {
 
     /// Returns whether the node is up to date.
     pub fn is_up_to_date(&self) -> bool
-        ensures { result ≡ self.now.up_to_date }
+        ensures { result ≡ is_up_to_date self.now }
     {
-        self.up_to_date
+        self.taught || self.settled
+    }
+
+    /// Returns whether a peer has taught the node all rows, or there is no peer, so that no peer is asked from now on.
+    pub fn is_taught(&self) -> bool
+        ensures { result ≡ self.now.taught }
+    {
+        self.taught
     }
 
     /// Notes that a session with the peer with this index begins.
@@ -360,7 +376,7 @@ impl Asking {
     fn is_next(&self, peer: usize, now: u64) -> bool
         ensures { result ≡ is_next peer now self.now }
     {
-        !self.up_to_date && self.awaited.is_none() && is_first(self.peers.as_slice(), peer, now)
+        !self.taught && self.awaited.is_none() && is_first(self.peers.as_slice(), peer, now)
     }
 
     /// Returns whether the peer with this index is to be asked now, and notes that it is.
@@ -396,8 +412,8 @@ impl Asking {
         set_brought(self.peers.as_mut_slice(), peer, now);
     }
 
-    /// Notes that the peer with this index has ended its resync as finished, which counts if it was asked. Returns whether the node
-    /// becomes up to date by that.
+    /// Notes that the peer with this index has ended its resync as finished, and defines all tables as this node does. This counts if it was
+    /// asked. Returns whether the node becomes up to date by that.
     pub fn finish(&mut self, peer: usize) -> bool
         ensures done { result ≡ is_done_by peer self.old }
         ensures finished { self.new ≡ finished peer self.old }
@@ -405,8 +421,8 @@ impl Asking {
         if !owes(self.peers.as_slice(), peer) {
             return false;
         }
-        let done = !self.up_to_date;
-        self.up_to_date = true;
+        let done = !self.is_up_to_date();
+        self.taught = true;
         self.awaited = None;
         done
     }
@@ -417,6 +433,16 @@ impl Asking {
     {
         if owes(self.peers.as_slice(), peer) {
             self.stand(peer, Standing::Partial);
+        }
+    }
+
+    /// Notes that the peer with this index has ended its resync as finished, and defines some table otherwise than this node, or not at all.
+    /// This counts if it was asked.
+    pub fn finish_incompletely(&mut self, peer: usize)
+        ensures { self.new ≡ incompletely_finished peer self.old }
+    {
+        if owes(self.peers.as_slice(), peer) {
+            self.stand(peer, Standing::Incomplete);
         }
     }
 
@@ -448,17 +474,16 @@ impl Asking {
         }
     }
 
-    /// Takes the node to be up to date if nobody has more to teach. Returns whether it does so now.
+    /// Takes the node to be up to date if nobody has more to teach. Returns whether it does so now. It goes on to ask.
     pub fn settle(&mut self, now: u64) -> bool
         ensures settles { result ≡ is_settled now self.old }
         ensures settled { self.new ≡ settled now self.old }
     {
         let is_time = now >= ALONE || are_there(self.peers.as_slice());
-        if self.up_to_date || !is_time || !are_partial(self.peers.as_slice()) {
+        if self.is_up_to_date() || !is_time || !have_answered(self.peers.as_slice()) {
             return false;
         }
-        self.up_to_date = true;
-        self.awaited = None;
+        self.settled = true;
         true
     }
 }

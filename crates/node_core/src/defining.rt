@@ -64,7 +64,7 @@ impl Defining {
         ensures { self.new ≡ ended now end self.old }
     {
         match end {
-            ResyncEnd::Finished => {
+            ResyncEnd::Finished | ResyncEnd::Incomplete => {
                 self.has_taught = true;
                 self.finished = Some(first_or(now, self.finished));
             }

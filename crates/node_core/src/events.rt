@@ -106,6 +106,11 @@ pub enum Event<'a> {
     },
     /// The node stops.
     Stop,
+    /// The node has ended all its sessions.
+    Stopped {
+        /// How many it cut, since their peers hadn't acknowledged all in time.
+        cut: u64,
+    },
 }
 
 /// Why lines of the log were left out.
@@ -150,6 +155,10 @@ pub enum HelloRefusal {
     Stranger,
     /// The peer may not come from the address from which it came.
     Elsewhere,
+    /// Nothing of it came in time.
+    Missing,
+    /// It began, and wasn't whole in time.
+    Unfinished,
 }
 
 /// What happens with a peer.
@@ -229,8 +238,13 @@ pub enum PeerEvent<'a> {
         /// The table's name.
         table: &'a [u8],
     },
-    /// It has sent something of a table that the node passes over.
-    PassedOver,
+    /// It has defined a table that the node can't have, whose rows are passed over.
+    PassedOver {
+        /// The name of the first such table by the peer's ids, which the peer chose; empty if none is left.
+        table: &'a [u8],
+        /// Whether it stores data types from 20 up.
+        further: bool,
+    },
     /// It has broken the protocol.
     Fault {
         /// The fault's name.
@@ -243,6 +257,13 @@ pub enum PeerEvent<'a> {
         /// What is known of the cause besides, in words that stand behind "ended"; empty if nothing is.
         cause: &'a [u8],
     },
+    /// It has closed several sessions soon after they began.
+    ShortSessions {
+        /// How many.
+        count: u64,
+        /// The name by which the node calls itself.
+        node: &'a [u8],
+    },
 }
 
 /// How a resync ended.
@@ -250,6 +271,8 @@ pub enum PeerEvent<'a> {
 pub enum ResyncEnd {
     /// All rows were taught.
     Finished,
+    /// All rows were taught, but for tables that the teacher defines otherwise than the learner, or not at all.
+    Incomplete,
     /// Not all rows were taught.
     Partial,
     /// The session ended first.

@@ -75,6 +75,8 @@ status_lead refusals.Version = number_lead (codes " status=") 502 status_key ref
 status_lead refusals.OtherNode = number_lead (codes " status=") 503 status_key refl
 status_lead refusals.Stranger = number_lead (codes " status=") 504 status_key refl
 status_lead refusals.Elsewhere = number_lead (codes " status=") 504 status_key refl
+status_lead refusals.Missing = number_lead (codes " status=") 501 status_key refl
+status_lead refusals.Unfinished = number_lead (codes " status=") 501 status_key refl
 
 sender_lead : (sender : Option Sender) → list_all are_bytes (sender_texts sender) ≡ true → IsLead (sender_field sender)
 sender_lead None texts = empty
@@ -91,6 +93,8 @@ said_lead refusals.Version said bytes = strange_if_lead (codes " protocol=") sai
 said_lead refusals.OtherNode said bytes = strange_if_lead (codes " called=") said (record { calm = refl; printable = refl }) bytes
 said_lead refusals.Stranger said bytes = empty
 said_lead refusals.Elsewhere said bytes = empty
+said_lead refusals.Missing said bytes = empty
+said_lead refusals.Unfinished said bytes = empty
 
 peer_lead : (peer : Option (List ℕ)) → list_all are_bytes (texts_if peer) ≡ true → IsLead (peer_field peer)
 peer_lead None texts = empty
@@ -126,6 +130,7 @@ part_lead false = record { calm = refl; printable = refl }
 
 resync_lead : (end : ResyncEnd) → IsLead (word_field (codes " end=") (resync_name end))
 resync_lead resyncs.Finished = record { calm = refl; printable = refl }
+resync_lead resyncs.Incomplete = record { calm = refl; printable = refl }
 resync_lead resyncs.Partial = record { calm = refl; printable = refl }
 resync_lead resyncs.Broken = record { calm = refl; printable = refl }
 
@@ -166,9 +171,10 @@ fields_lead (peers.Mismatch table difference theirs ours) texts numbers = leads 
 fields_lead (peers.Unshared table) texts numbers = strange_lead (codes " table=") table.now table_key (first _ _ texts)
 fields_lead (peers.Undefined table) texts numbers = word_lead (codes " table=") table.now table_key (first _ _ texts)
 fields_lead (peers.Left table) texts numbers = word_lead (codes " table=") table.now table_key (first _ _ texts)
-fields_lead peers.PassedOver texts numbers = empty
+fields_lead (peers.PassedOver table further) texts numbers = strange_if_lead (codes " table=") table.now table_key (first _ _ texts)
 fields_lead (peers.Fault fault) texts numbers = word_lead (codes " fault=") fault.now (record { calm = refl; printable = refl }) (first _ _ texts)
 fields_lead (peers.Ended end cause) texts numbers = end_lead end
+fields_lead (peers.ShortSessions count node) texts numbers = count_lead count (first _ _ numbers)
 
 -- ---- of an event
 
@@ -204,6 +210,7 @@ keys_lead (events.Omitted peer (omissions.Repeated event) count) texts numbers =
 keys_lead (events.Omitted peer omissions.Unwritten count) texts numbers =
     leads _ _ (peer_lead (name_of peer) texts) (leads _ _ empty (count_lead count (first _ _ numbers)))
 keys_lead events.Stop texts numbers = empty
+keys_lead (events.Stopped cut) texts numbers = number_lead (codes " cut=") cut (record { calm = refl; printable = refl }) (first _ _ numbers)
 
 peer_name_lead : (event : PeerEvent) → IsLead (peer_event_name event)
 peer_name_lead peers.Connecting = record { calm = refl; printable = refl }
@@ -218,9 +225,10 @@ peer_name_lead (peers.Mismatch table difference theirs ours) = record { calm = r
 peer_name_lead (peers.Unshared table) = record { calm = refl; printable = refl }
 peer_name_lead (peers.Undefined table) = record { calm = refl; printable = refl }
 peer_name_lead (peers.Left table) = record { calm = refl; printable = refl }
-peer_name_lead peers.PassedOver = record { calm = refl; printable = refl }
+peer_name_lead (peers.PassedOver table further) = record { calm = refl; printable = refl }
 peer_name_lead (peers.Fault fault) = record { calm = refl; printable = refl }
 peer_name_lead (peers.Ended end cause) = record { calm = refl; printable = refl }
+peer_name_lead (peers.ShortSessions count node) = record { calm = refl; printable = refl }
 
 name_lead : (event : Event) → IsLead (event_name event)
 name_lead (events.Start version configuration node) = record { calm = refl; printable = refl }
@@ -236,6 +244,7 @@ name_lead (events.NotRenewed table) = record { calm = refl; printable = refl }
 name_lead (events.NotAccepted port want reason) = record { calm = refl; printable = refl }
 name_lead (events.Omitted peer cause count) = record { calm = refl; printable = refl }
 name_lead events.Stop = record { calm = refl; printable = refl }
+name_lead (events.Stopped cut) = record { calm = refl; printable = refl }
 
 pub event_lead : (event : Event) → is_event event ≡ true → IsLead (event_text event)
 event_lead event is =

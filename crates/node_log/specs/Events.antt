@@ -1,5 +1,5 @@
 -- The names of events, and how much each matters.
-use Rattle.std.specs.Prelude.{ℕ, List, codes}
+use Rattle.std.specs.Prelude.{ℕ, ◌==◌, List, codes, if◌then◌else◌}
 use Rattle.node_core.specs.declared.events.Event.{Event}
 use Rattle.node_core.specs.declared.events.Event.TheVariants as events
 use Rattle.node_core.specs.declared.events.PeerEvent.{PeerEvent}
@@ -26,9 +26,10 @@ peer_event_name (peers.Mismatch table difference theirs ours) = codes "mismatch"
 peer_event_name (peers.Unshared table) = codes "unshared"
 peer_event_name (peers.Undefined table) = codes "undefined"
 peer_event_name (peers.Left table) = codes "left"
-peer_event_name peers.PassedOver = codes "passed-over"
+peer_event_name (peers.PassedOver table further) = codes "passed-over"
 peer_event_name (peers.Fault fault) = codes "fault"
 peer_event_name (peers.Ended end cause) = codes "ended"
+peer_event_name (peers.ShortSessions count node) = codes "short-sessions"
 
 abbrev pub event_name : Event → List ℕ
 event_name (events.Start version configuration node) = codes "start"
@@ -44,12 +45,14 @@ event_name (events.NotRenewed table) = codes "not-renewed"
 event_name (events.NotAccepted port want reason) = codes "not-accepted"
 event_name (events.Omitted peer cause count) = codes "omitted"
 event_name events.Stop = codes "stop"
+event_name (events.Stopped cut) = codes "stopped"
 
 -- ---- levels
 
 -- A resync that ended with its rows is as it should be; one that the session's end broke isn't.
 abbrev pub resync_level : ResyncEnd → Level
 resync_level resyncs.Finished = levels.Info
+resync_level resyncs.Incomplete = levels.Info
 resync_level resyncs.Partial = levels.Info
 resync_level resyncs.Broken = levels.Warn
 
@@ -77,8 +80,13 @@ peer_event_level (peers.Mismatch table difference theirs ours) = levels.Warn
 peer_event_level (peers.Unshared table) = levels.Info
 peer_event_level (peers.Undefined table) = levels.Info
 peer_event_level (peers.Left table) = levels.Warn
-peer_event_level peers.PassedOver = levels.Warn
+peer_event_level (peers.PassedOver table further) = levels.Warn
 peer_event_level (peers.Fault fault) = levels.Warn
+peer_event_level (peers.ShortSessions count node) = levels.Warn
+
+-- A stop that cut no session is as it should be.
+abbrev pub stop_level : ℕ → Level
+stop_level cut = if cut == 0 then levels.Info else levels.Warn
 
 abbrev pub level_of : Event → Level
 level_of (events.OfPeer name address event) = peer_event_level event
@@ -94,3 +102,4 @@ level_of (events.Listening port address) = levels.Info
 level_of (events.UpToDate teacher) = levels.Info
 level_of (events.Renewed table) = levels.Info
 level_of events.Stop = levels.Info
+level_of (events.Stopped cut) = stop_level cut

@@ -50,6 +50,7 @@ teacher_or_learner false = codes "learner"
 
 abbrev pub resync_name : ResyncEnd → List ℕ
 resync_name resyncs.Finished = codes "finished"
+resync_name resyncs.Incomplete = codes "incomplete"
 resync_name resyncs.Partial = codes "partial"
 resync_name resyncs.Broken = codes "broken"
 
@@ -63,13 +64,16 @@ abbrev pub wait_name : WaitEnd → List ℕ
 wait_name waits.Mute = codes "mute"
 wait_name waits.Endless = codes "endless"
 
--- the status that answers a hello that is refused so (HAProxy, doc/peers-v2.0.txt)
+-- the status that answers a hello that is refused so (HAProxy, doc/peers-v2.0.txt; that one that comes too late is no hello, is a choice
+-- of this project)
 abbrev pub status_of : HelloRefusal → ℕ
 status_of refusals.Garbled = 501
 status_of refusals.Version = 502
 status_of refusals.OtherNode = 503
 status_of refusals.Stranger = 504
 status_of refusals.Elsewhere = 504
+status_of refusals.Missing = 501
+status_of refusals.Unfinished = 501
 
 -- ---- fields: a key, with a space before it and `=` behind it, and its value
 
@@ -119,6 +123,8 @@ said_field refusals.OtherNode said = strange_if (codes " called=") said
 said_field refusals.Garbled said = []
 said_field refusals.Stranger said = []
 said_field refusals.Elsewhere said = []
+said_field refusals.Missing said = []
+said_field refusals.Unfinished said = []
 
 abbrev pub hello_fields : HelloRefusal → Option Sender → List ℕ → List ℕ → List ℕ
 hello_fields refusal sender address said =
@@ -167,9 +173,10 @@ peer_fields (peers.Mismatch table difference theirs ours) = word_field (codes " 
 peer_fields (peers.Unshared table) = strange_field (codes " table=") table.now
 peer_fields (peers.Undefined table) = word_field (codes " table=") table.now
 peer_fields (peers.Left table) = word_field (codes " table=") table.now
-peer_fields peers.PassedOver = []
+peer_fields (peers.PassedOver table further) = strange_if (codes " table=") table.now
 peer_fields (peers.Fault fault) = word_field (codes " fault=") fault.now
 peer_fields (peers.Ended end cause) = word_field (codes " end=") (end_name end)
+peer_fields (peers.ShortSessions count node) = number_field (codes " count=") count
 
 -- ---- of an event
 
@@ -191,3 +198,4 @@ keys_text (events.NotRenewed table) = word_field (codes " table=") table.now
 keys_text (events.NotAccepted port want reason) = word_field (codes " port=") (port_name port)
 keys_text (events.Omitted peer cause count) = omission_fields (name_of peer) cause count
 keys_text events.Stop = []
+keys_text (events.Stopped cut) = number_field (codes " cut=") cut

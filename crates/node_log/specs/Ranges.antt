@@ -24,6 +24,7 @@ peer_texts (peers.Mismatch table difference theirs ours) = table.now ∷ []
 peer_texts (peers.Unshared table) = table.now ∷ []
 peer_texts (peers.Undefined table) = table.now ∷ []
 peer_texts (peers.Left table) = table.now ∷ []
+peer_texts (peers.PassedOver table further) = table.now ∷ []
 peer_texts (peers.Fault fault) = fault.now ∷ []
 peer_texts event = []
 
@@ -43,10 +44,12 @@ texts_of (events.NotAccepted port want reason) = []
 texts_of (events.Omitted peer (omissions.Repeated event) count) = event.now ∷ texts_if (name_of peer)
 texts_of (events.Omitted peer omissions.Unwritten count) = texts_if (name_of peer)
 texts_of events.Stop = []
+texts_of (events.Stopped cut) = []
 
 abbrev pub peer_numbers : PeerEvent → List ℕ
 peer_numbers (peers.Refused status node) = status ∷ []
 peer_numbers (peers.ResyncEnded taught end rows milliseconds) = rows ∷ milliseconds ∷ []
+peer_numbers (peers.ShortSessions count node) = count ∷ []
 peer_numbers event = []
 
 -- the numbers that they say
@@ -54,6 +57,7 @@ abbrev pub numbers_of : Event → List ℕ
 numbers_of (events.OfPeer name address event) = peer_numbers event
 numbers_of (events.HeldUp milliseconds) = milliseconds ∷ []
 numbers_of (events.Omitted peer cause count) = count ∷ []
+numbers_of (events.Stopped cut) = cut ∷ []
 numbers_of event = []
 
 abbrev pub are_bytes : List ℕ → Bool

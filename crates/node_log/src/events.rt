@@ -1,6 +1,6 @@
 //! The names of events, and how much each matters.
 ghost use Rattle.std.specs.Prelude.{◌≡◌};
-ghost use Rattle.node_log.specs.Events.{end_level, event_name, level_of, peer_event_level, peer_event_name, resync_level};
+ghost use Rattle.node_log.specs.Events.{end_level, event_name, level_of, peer_event_level, peer_event_name, resync_level, stop_level};
 
 use node_core::{Event, Level, PeerEvent, ResyncEnd, SessionEnd};
 
@@ -22,6 +22,7 @@ pub fn event_name(event: &Event<'_>) -> &'static str
         Event::NotAccepted { .. } => "not-accepted",
         Event::Omitted { .. } => "omitted",
         Event::Stop => "stop",
+        Event::Stopped { .. } => "stopped",
     }
 }
 
@@ -41,9 +42,10 @@ pub fn peer_event_name(event: &PeerEvent<'_>) -> &'static str
         PeerEvent::Unshared { .. } => "unshared",
         PeerEvent::Undefined { .. } => "undefined",
         PeerEvent::Left { .. } => "left",
-        PeerEvent::PassedOver => "passed-over",
+        PeerEvent::PassedOver { .. } => "passed-over",
         PeerEvent::Fault { .. } => "fault",
         PeerEvent::Ended { .. } => "ended",
+        PeerEvent::ShortSessions { .. } => "short-sessions",
     }
 }
 
@@ -59,6 +61,7 @@ pub fn level_of(event: &Event<'_>) -> Level
         | Event::ConfigurationWarning { .. }
         | Event::Omitted { .. } => Level::Warn,
         Event::OfPeer { event, .. } => peer_event_level(event),
+        Event::Stopped { cut } => stop_level(*cut),
         Event::Start { .. }
         | Event::Listening { .. }
         | Event::UpToDate { .. }
@@ -85,9 +88,17 @@ fn peer_event_level(event: &PeerEvent<'_>) -> Level
         | PeerEvent::Unanswered { .. }
         | PeerEvent::Mismatch { .. }
         | PeerEvent::Left { .. }
-        | PeerEvent::PassedOver
-        | PeerEvent::Fault { .. } => Level::Warn,
+        | PeerEvent::PassedOver { .. }
+        | PeerEvent::Fault { .. }
+        | PeerEvent::ShortSessions { .. } => Level::Warn,
     }
+}
+
+/// Returns how much it matters that the node has stopped, which cut so many sessions.
+fn stop_level(cut: u64) -> Level
+    ensures { result ≡ stop_level cut }
+{
+    if cut == 0 { Level::Info } else { Level::Warn }
 }
 
 /// Returns how much the end of a resync matters.
@@ -95,7 +106,7 @@ fn resync_level(end: ResyncEnd) -> Level
     ensures { result ≡ resync_level end }
 {
     match end {
-        ResyncEnd::Finished | ResyncEnd::Partial => Level::Info,
+        ResyncEnd::Finished | ResyncEnd::Incomplete | ResyncEnd::Partial => Level::Info,
         ResyncEnd::Broken => Level::Warn,
     }
 }

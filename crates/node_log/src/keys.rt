@@ -85,6 +85,7 @@ pub(crate) fn push_keys(text: &mut Vec<u8>, event: &Event<'_>) -> Result<(), All
         Event::NotAccepted { port, .. } => push_field(text, " port=", port_name(*port).as_bytes()),
         Event::Omitted { peer, cause, count } => push_omission(text, *peer, *cause, *count),
         Event::ConfigurationWarning { .. } | Event::Stop => Ok(()),
+        Event::Stopped { cut } => push_number_field(text, " cut=", *cut),
     }
 }
 
@@ -168,7 +169,11 @@ fn push_said(text: &mut Vec<u8>, refusal: HelloRefusal, said: &[u8]) -> Result<(
     match refusal {
         HelloRefusal::Version => push_strange_if(text, " protocol=", said),
         HelloRefusal::OtherNode => push_strange_if(text, " called=", said),
-        HelloRefusal::Garbled | HelloRefusal::Stranger | HelloRefusal::Elsewhere => Ok(()),
+        HelloRefusal::Garbled
+        | HelloRefusal::Stranger
+        | HelloRefusal::Elsewhere
+        | HelloRefusal::Missing
+        | HelloRefusal::Unfinished => Ok(()),
     }
 }
 
@@ -177,7 +182,7 @@ pub fn status_of(refusal: HelloRefusal) -> u16
     ensures { result ≡ status_of refusal }
 {
     match refusal {
-        HelloRefusal::Garbled => 501,
+        HelloRefusal::Garbled | HelloRefusal::Missing | HelloRefusal::Unfinished => 501,
         HelloRefusal::Version => 502,
         HelloRefusal::OtherNode => 503,
         HelloRefusal::Stranger | HelloRefusal::Elsewhere => 504,
@@ -229,8 +234,7 @@ fn push_peer_keys(text: &mut Vec<u8>, event: &PeerEvent<'_>) -> Result<(), Alloc
         PeerEvent::Connecting
         | PeerEvent::Unreachable { .. }
         | PeerEvent::NoSession { .. }
-        | PeerEvent::Asked
-        | PeerEvent::PassedOver => Ok(()),
+        | PeerEvent::Asked => Ok(()),
         PeerEvent::Unanswered { why } => { push_field(text, " why=", wait_name(*why).as_bytes()) }
         PeerEvent::Refused { status, .. } => {
             push_number_field(text, " status=", u64::from(*status))
@@ -255,11 +259,13 @@ fn push_peer_keys(text: &mut Vec<u8>, event: &PeerEvent<'_>) -> Result<(), Alloc
             push_field(text, " what=", what_name(*difference).as_bytes())
         }
         PeerEvent::Unshared { table } => push_strange_field(text, " table=", table),
+        PeerEvent::PassedOver { table, .. } => push_strange_if(text, " table=", table),
         PeerEvent::Undefined { table } | PeerEvent::Left { table } => {
             push_field(text, " table=", table)
         }
         PeerEvent::Fault { fault } => push_field(text, " fault=", fault),
         PeerEvent::Ended { end, .. } => push_field(text, " end=", end.name().as_bytes()),
+        PeerEvent::ShortSessions { count, .. } => push_number_field(text, " count=", *count),
     }
 }
 
@@ -334,6 +340,7 @@ fn resync_name(end: ResyncEnd) -> &'static str
 {
     match end {
         ResyncEnd::Finished => "finished",
+        ResyncEnd::Incomplete => "incomplete",
         ResyncEnd::Partial => "partial",
         ResyncEnd::Broken => "broken",
     }

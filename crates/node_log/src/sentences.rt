@@ -1,8 +1,8 @@
 //! What the log says of events to people: what happened, to whom, and what repairs it.
 
 use node_core::{
-    Event, HelloRefusal, NoSession, Omission, PeerEvent, Port, Process, ResyncEnd, Sender,
-    SessionEnd, WaitEnd, Want,
+    Difference, Event, HelloRefusal, NoSession, Omission, PeerEvent, Port, Process, ResyncEnd,
+    Sender, SessionEnd, WaitEnd, Want,
 };
 use node_text::cut;
 use std::alloc::{AllocError, Global};
@@ -57,6 +57,18 @@ pub(crate) fn sentence_of(alloc: Global, event: &Event<'_>) -> Result<String, Al
         Event::NotAccepted { want, reason, .. } => want_sentence(alloc, *want, text_of(reason)),
         Event::Omitted { cause, count, .. } => omission_sentence(alloc, *cause, *count),
         Event::Stop => String::from_str(alloc, "the node stops"),
+        Event::Stopped { cut } => stop_sentence(alloc, *cut),
+    }
+}
+
+/// Returns the sentence about a node that has stopped, and cut so many sessions.
+fn stop_sentence(alloc: Global, cut: u64) -> Result<String, AllocError> {
+    if cut == 0 {
+        String::from_str(alloc, "the node has stopped, and cut no session")
+    } else {
+        format!(in alloc;
+            "the node has stopped, and cut sessions that were still at work or not acknowledged after 3 s: {cut}"
+        )
     }
 }
 
@@ -160,6 +172,14 @@ fn hello_sentence(alloc: Global, refusal: HelloRefusal, node: &str) -> Result<St
             alloc,
             "this address isn't one from which this peer may come, by \"from\" of its line here",
         ),
+        HelloRefusal::Missing => String::from_str(
+            alloc,
+            "whoever connected sent nothing for 5 s: it hangs, or it is no peer, such as a health check of this port, or a proxy that waits",
+        ),
+        HelloRefusal::Unfinished => String::from_str(
+            alloc,
+            "whoever connected began to speak and sent no whole hello within 5 s: it hangs, or it doesn't speak the peers protocol",
+        ),
     }
 }
 
@@ -167,10 +187,7 @@ fn hello_sentence(alloc: Global, refusal: HelloRefusal, node: &str) -> Result<St
 fn peer_sentence(alloc: Global, name: &str, event: &PeerEvent<'_>) -> Result<String, AllocError> {
     match event {
         PeerEvent::Connecting => format!(in alloc; "this node tries to connect to {name}"),
-        PeerEvent::Unreachable { reason } => {
-            let reason = text_of(reason);
-            format!(in alloc; "this node can't connect to {name}: {reason}")
-        }
+        PeerEvent::Unreachable { reason } => unreachable_sentence(alloc, name, reason),
         PeerEvent::NoSession { why, cause } => {
             no_session_sentence(alloc, name, *why, text_of(cause))
         }
@@ -185,9 +202,60 @@ fn peer_sentence(alloc: Global, name: &str, event: &PeerEvent<'_>) -> Result<Str
         PeerEvent::Asked => format!(in alloc; "this node asks {name} for all rows"),
         PeerEvent::Unanswered { why } => wait_sentence(alloc, name, *why),
         PeerEvent::ResyncEnded { taught, end, .. } => resync_sentence(alloc, name, *taught, *end),
-        PeerEvent::Fault { .. } => format!(in alloc; "{name} has broken the protocol"),
+        PeerEvent::Fault { fault } => fault_sentence(alloc, name, fault),
         PeerEvent::Ended { end, cause } => end_sentence(alloc, name, *end, text_of(cause)),
+        PeerEvent::ShortSessions { node, .. } => {
+            let node = text_of(node);
+            format!(in alloc;
+                "{name} closes each session within seconds: another node may go by the name {node} there, or {name} is starting again and again"
+            )
+        }
         _ => table_sentence(alloc, name, event),
+    }
+}
+
+/// Returns the sentence about the peer called `name` that can't be connected to for this reason, in the system's words.
+fn unreachable_sentence(alloc: Global, name: &str, reason: &[u8]) -> Result<String, AllocError> {
+    let why = text_of(reason);
+    match reason {
+        b"Connection refused" => format!(in alloc;
+            "this node can't connect to {name}: {why}; it isn't running there, or its own line \"peer {name} ..\" has another port"
+        ),
+        b"connection timed out" | b"Connection timed out" => format!(in alloc;
+            "this node can't connect to {name}: {why}; its host is down, or something on the way drops what is sent to this port"
+        ),
+        b"No route to host" => format!(in alloc;
+            "this node can't connect to {name}: {why}; its host is down, or nothing on the way leads to it"
+        ),
+        _ => format!(in alloc; "this node can't connect to {name}: {why}"),
+    }
+}
+
+/// Returns what the peer has done that broke the protocol, by the fault's name, if it is one of those that a session knows.
+fn meaning_of(fault: &[u8]) -> Option<&'static str> {
+    Some(match fault {
+        b"BadInteger" => "a number of a message is too large, or cut",
+        b"SizeLimit" => "a message is too long, or too many tables are defined",
+        b"BadDefinition" | b"UnknownDataType" =>
+            "the definition of a table is cut, or out of range",
+        b"NoTable" => "a message is of no table that was defined",
+        b"BadKey" => "an update is cut, or its key is none of its table",
+        b"BadValue" => "the values of an update are cut, or out of range",
+        b"Trailing" => "a message is longer than its fields",
+        b"EmptySlot" => "an update takes its server's name from where none was put",
+        b"NoNumber" => "an update has no number, and none came before it",
+        b"AckAhead" => "it has acknowledged an update that it wasn't sent",
+        _ => return None,
+    })
+}
+
+/// Returns the sentence about a fault of the peer called `name`.
+fn fault_sentence(alloc: Global, name: &str, fault: &[u8]) -> Result<String, AllocError> {
+    match meaning_of(fault) {
+        Some(meaning) => format!(in alloc;
+            "{name} has broken the protocol, and its session ends: {meaning}"
+        ),
+        None => format!(in alloc; "{name} has broken the protocol, and its session ends"),
     }
 }
 
@@ -224,26 +292,55 @@ fn begin_sentence(
     }
 }
 
+/// Returns the sentence about a table that the peer called `name` defines otherwise.
+fn mismatch_sentence(
+    alloc: Global,
+    name: &str,
+    difference: Difference,
+    theirs: &str,
+    ours: &str,
+) -> Result<String, AllocError> {
+    match difference {
+        Difference::Kind | Difference::Length => format!(in alloc;
+            "{name} has {theirs}, this node {ours}: until both define the table alike, neither stores a row of the other's"
+        ),
+        Difference::Types | Difference::Period => format!(in alloc;
+            "{name} has {theirs}, this node {ours}: until both define the table alike, no row of {name}'s is stored here, though a HAProxy stores this node's"
+        ),
+    }
+}
+
+/// Returns whether a table's name on the wire is that of a table of a section of peers.
+fn is_of_section(table: &[u8]) -> bool {
+    matches!(table, [b'/', ..])
+}
+
 /// Returns the sentence about a table of the peer called `name`.
 fn table_sentence(alloc: Global, name: &str, event: &PeerEvent<'_>) -> Result<String, AllocError> {
     match event {
-        PeerEvent::Mismatch { theirs, ours, .. } => {
-            let (theirs, ours) = (text_of(theirs), text_of(ours));
-            format!(in alloc;
-                "{name} has {theirs}, this node {ours}: both have to define the table alike"
-            )
-        }
+        PeerEvent::Mismatch {
+            difference,
+            theirs,
+            ours,
+            ..
+        } => mismatch_sentence(alloc, name, *difference, text_of(theirs), text_of(ours)),
         PeerEvent::Unshared { .. } => format!(in alloc;
-            "{name} has this table, and this node lacks it: its rows are passed over"
+            "{name} has this table, and this node lacks it, so its rows are passed over: to share it, add a line \"table ..\" with this name here"
+        ),
+        PeerEvent::Undefined { table } if is_of_section(table) => format!(in alloc;
+            "this node has this table, and {name} hasn't defined it: its section of peers may lack it, or a proxy has it there, whose tables have no / in a name here"
         ),
         PeerEvent::Undefined { .. } => format!(in alloc;
-            "this node has this table, and {name} hasn't defined it: it may lack it"
+            "this node has this table, and {name} hasn't defined it: it may lack it, or its section of peers has it, whose tables have a / before their name here"
         ),
         PeerEvent::Left { .. } => format!(in alloc;
-            "{name} acknowledges no row of this table, which isn't taught any longer on this connection"
+            "{name} acknowledges no row of this table, so none is taught any longer on this connection: it may lack the table, or have it with another kind or length of keys"
+        ),
+        PeerEvent::PassedOver { further: true, .. } => format!(in alloc;
+            "a table of {name} stores data types from 20 up, as gpc(4), so this node passes over its rows: give these types a table of their own there"
         ),
         _ => format!(in alloc;
-            "{name} has sent what this node passes over: a table that it defines in another way, or types that it doesn't know"
+            "a table of {name} has keys or a period that no table of this node can have, so its rows are passed over"
         ),
     }
 }
@@ -282,11 +379,14 @@ fn resync_sentence(
 ) -> Result<String, AllocError> {
     match (taught, end) {
         (false, ResyncEnd::Finished) => format!(in alloc; "{name} has taught this node all rows"),
+        (false, ResyncEnd::Incomplete) => format!(in alloc;
+            "{name} has taught this node its rows, but has no rows of some table, or doesn't define it as this node does: other peers are asked as well"
+        ),
         (false, ResyncEnd::Partial) => format!(in alloc;
-            "{name} has taught this node the rows that it has, and isn't up to date itself"
+            "{name} has taught this node the rows that it has, but isn't up to date itself or has left a table"
         ),
         (true, ResyncEnd::Finished) => format!(in alloc; "this node has taught {name} all rows"),
-        (true, ResyncEnd::Partial) => format!(in alloc;
+        (true, ResyncEnd::Incomplete | ResyncEnd::Partial) => format!(in alloc;
             "this node has taught {name} the rows that it has, but wasn't up to date itself or had left a table"
         ),
         (_, ResyncEnd::Broken) => format!(in alloc;
@@ -337,7 +437,8 @@ fn no_session_sentence(
     }
 }
 
-/// Returns the sentence about the end of a session with the peer called `name`. `cause` stands behind "ended".
+/// Returns the sentence about the end of a session with the peer called `name`. `cause` stands behind "ended"; of one that was closed it says
+/// why this node closed it, and nothing if the peer did.
 fn end_sentence(
     alloc: Global,
     name: &str,
@@ -345,7 +446,10 @@ fn end_sentence(
     cause: &str,
 ) -> Result<String, AllocError> {
     match end {
-        SessionEnd::End => format!(in alloc; "the session with {name} was closed"),
+        SessionEnd::End if cause.is_empty() => format!(in alloc; "{name} has closed the session"),
+        SessionEnd::End => format!(in alloc;
+            "this node has closed the session with {name} {cause}"
+        ),
         SessionEnd::Silent => format!(in alloc;
             "the session with {name} was given up, since no byte of it came for 10 s"
         ),

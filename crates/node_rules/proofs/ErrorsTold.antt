@@ -29,7 +29,7 @@ gone_on_calm asking teaching r calm = by (stands r) refl
 ended_calm : (end : SessionEnd) (now : ℕ) (r : PeerRecord) → IsCalm (ended end now r)
 ended_calm end now r = by (stands r) (is_replaced end)
   where
-    by : (b replaced : Bool) → IsCalm (cond b (late end now (record (alone r) { ended = counted_end end r.ended })) (cond replaced (alone r) (late end now (alone r))))
+    by : (b replaced : Bool) → IsCalm (cond b (late end now (record (alone r) { since = now; ended = counted_end end r.ended })) (cond replaced (alone r) (late end now (alone r))))
     by true replaced = λ up. absurd (false≢true up)
     by false true = λ up. absurd (false≢true up)
     by false false = λ up. absurd (false≢true up)

@@ -1,3 +1,4 @@
+pub mod DownSince
 pub mod ErrorsTold
 pub mod Leaving
 pub mod StopsWait

@@ -16,6 +16,10 @@ abbrev pub refusal : Option ℕ → Bool → Option HelloRefusal
 refusal (Some status) may_come = Some (refusal_of status)
 refusal None may_come = if may_come then None else Some refusals.Elsewhere
 
+-- one that isn't whole in time: something of it came, or nothing
+abbrev pub late_refusal : Bool → HelloRefusal
+late_refusal came = if came then refusals.Unfinished else refusals.Missing
+
 -- what isn't a hello names nobody
 abbrev pub names_sender : HelloRefusal → Bool
 names_sender refusals.Garbled = false
@@ -23,6 +27,8 @@ names_sender refusals.Version = true
 names_sender refusals.OtherNode = true
 names_sender refusals.Stranger = true
 names_sender refusals.Elsewhere = true
+names_sender refusals.Missing = false
+names_sender refusals.Unfinished = false
 
 -- what is wrong in it
 abbrev pub said_in : HelloRefusal → SaidPart
@@ -31,3 +37,5 @@ said_in refusals.OtherNode = parts.CalledNode
 said_in refusals.Garbled = parts.Nothing
 said_in refusals.Stranger = parts.Nothing
 said_in refusals.Elsewhere = parts.Nothing
+said_in refusals.Missing = parts.Nothing
+said_in refusals.Unfinished = parts.Nothing

@@ -9,3 +9,4 @@ pub mod PeerRecords
 pub mod PeerRuns
 pub mod Resyncs
 pub mod Seats
+pub mod ShortSessions

@@ -27,6 +27,7 @@ count_more n = min (n + 1) (2 ^ 64 - 1)
 
 abbrev pub counted : ResyncEnd → ResyncsEnded → ResyncsEnded
 counted resyncs.Finished n = record n { finished = count_more n.finished }
+counted resyncs.Incomplete n = record n { partial = count_more n.partial }
 counted resyncs.Partial n = record n { partial = count_more n.partial }
 counted resyncs.Broken n = record n { broken = count_more n.broken }
 
@@ -152,10 +153,9 @@ is_replaced ends.Fault = false
 is_replaced ends.Device = false
 is_replaced ends.Error = false
 
--- when a connection ended and why, and whether by a fault
+-- why a connection ended, and when if by a fault
 abbrev pub late : SessionEnd → ℕ → PeerRecord → PeerRecord
 late end now r = record r {
-  since = now;
   last_end = Some end;
   faults = if is_fault end then count_more r.faults else r.faults;
   faulted = if is_fault end then after_another now r.faulted else r.faulted;
@@ -165,9 +165,9 @@ late end now r = record r {
 abbrev pub alone : PeerRecord → PeerRecord
 alone r = record r { state = states.Down; teaches = false; role = None; version = None }
 
--- The end of a session is counted. So is told when a connection ended and why, but for one that was given up for another before its
--- session began.
+-- The end of a session is counted, and it is told since when there is none. Why a connection ended is told, too, but for one that was
+-- given up for another before its session began.
 abbrev pub ended : SessionEnd → ℕ → PeerRecord → PeerRecord
 ended end now r =
-    if stands r then late end now (record (alone r) { ended = counted_end end r.ended })
+    if stands r then late end now (record (alone r) { since = now; ended = counted_end end r.ended })
     else (if is_replaced end then alone r else late end now (alone r))

@@ -1,7 +1,9 @@
 -- The resyncs of a session, as its log and its metrics tell them.
-use Rattle.std.specs.Prelude.{ℕ, ◌-◌, Bool, false, not, ◌&&◌, nat_lt, Option, None, Some, if◌then◌else◌}
+use Rattle.std.specs.Prelude.{ℕ, ◌-◌, Bool, true, false, not, ◌&&◌, ◌||◌, ◌==◌, nat_lt, Option, None, Some, if◌then◌else◌}
 use Rattle.node_core.specs.declared.events.ResyncEnd.{ResyncEnd}
 use Rattle.node_core.specs.declared.events.ResyncEnd.TheVariants as ends
+use Rattle.node_core.specs.declared.processes.Process.{Process}
+use Rattle.node_core.specs.declared.processes.Process.TheVariants as processes
 use Rattle.node_rules.specs.declared.resyncs.Learning.{Learning}
 use Rattle.node_rules.specs.declared.resyncs.Resync.{Resync}
 use Rattle.node_rules.specs.declared.resyncs.ResyncsHeard.{ResyncsHeard}
@@ -10,6 +12,28 @@ use Rattle.node_rules.specs.declared.resyncs.Teaching.{Teaching}
 -- a node that is up to date and has left no table has taught all rows
 abbrev pub resync_end : Bool → Bool → ResyncEnd
 resync_end up_to_date has_left = if up_to_date && not has_left then ends.Finished else ends.Partial
+
+-- a peer that has defined some tables, but not all of this node's as it does, hasn't taught all rows, whatever it says; one that has
+-- defined none has no rows
+abbrev pub counts_as : ℕ → Bool → ResyncEnd → ResyncEnd
+counts_as defined alike ends.Finished = if defined == 0 || alike then ends.Finished else ends.Incomplete
+counts_as defined alike ends.Incomplete = ends.Incomplete
+counts_as defined alike ends.Partial = ends.Partial
+counts_as defined alike ends.Broken = ends.Broken
+
+-- ---- whom a node asks
+
+-- its hello says that the peer may be another process than before
+abbrev pub may_be_new : Option Process → Bool
+may_be_new None = false
+may_be_new (Some processes.Unknown) = true
+may_be_new (Some processes.New) = true
+may_be_new (Some processes.Same) = false
+
+-- A node that isn't up to date asks each peer on its session. One that is asks a peer that it never asked, one that may be another process
+-- than the one that it asked, and one once it has defined all tables as the node does.
+abbrev pub is_asked_on : Bool → Bool → Option Process → Bool → Bool
+is_asked_on up_to_date was_asked process alike = not up_to_date || (not was_asked || (may_be_new process || alike))
 
 -- ---- the node is the teacher
 

@@ -1,7 +1,7 @@
 //! Why hellos are refused, and what of them is said.
 
 ghost use Rattle.std.specs.Prelude.{◌≡◌};
-ghost use Rattle.node_rules.specs.HelloRefusals.{names_sender, refusal, refusal_of, said_in};
+ghost use Rattle.node_rules.specs.HelloRefusals.{late_refusal, names_sender, refusal, refusal_of, said_in};
 
 use node_core::HelloRefusal;
 
@@ -39,12 +39,23 @@ pub fn hello_refusal(status: Option<u16>, may_come: bool) -> Option<HelloRefusal
     }
 }
 
+/// Returns why a hello is refused that isn't whole in time, of which something came or nothing.
+pub fn late_refusal(came: bool) -> HelloRefusal
+    ensures { result ≡ late_refusal came }
+{
+    if came {
+        HelloRefusal::Unfinished
+    } else {
+        HelloRefusal::Missing
+    }
+}
+
 /// Returns whether a hello that is refused so names its sender.
 pub fn names_sender(refusal: HelloRefusal) -> bool
     ensures { result ≡ names_sender refusal }
 {
     match refusal {
-        HelloRefusal::Garbled => false,
+        HelloRefusal::Garbled | HelloRefusal::Missing | HelloRefusal::Unfinished => false,
         HelloRefusal::Version
         | HelloRefusal::OtherNode
         | HelloRefusal::Stranger
@@ -59,8 +70,10 @@ pub fn said_in(refusal: HelloRefusal) -> SaidPart
     match refusal {
         HelloRefusal::Version => SaidPart::Version,
         HelloRefusal::OtherNode => SaidPart::CalledNode,
-        HelloRefusal::Garbled | HelloRefusal::Stranger | HelloRefusal::Elsewhere => {
-            SaidPart::Nothing
-        }
+        HelloRefusal::Garbled
+        | HelloRefusal::Stranger
+        | HelloRefusal::Elsewhere
+        | HelloRefusal::Missing
+        | HelloRefusal::Unfinished => SaidPart::Nothing,
     }
 }

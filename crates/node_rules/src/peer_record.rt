@@ -30,13 +30,13 @@ pub struct PeerRecord {
     pub role: Option<PeerRole>,
     /// The version that the session speaks, once its hello is over.
     pub version: Option<Version>,
-    /// When the session began or the last one ended.
+    /// When the session began or the last one ended, whatever attempts failed since.
     pub since: u64,
     /// How many sessions began.
     pub sessions: u64,
     /// How many ended by a fault of the peer.
     pub faults: u64,
-    /// Why the last session ended, if one did.
+    /// Why the last connection ended, if one did.
     pub last_end: Option<SessionEnd>,
     /// Why there is no session, as far as it is known.
     pub last_error: Option<LastError>,
@@ -69,7 +69,7 @@ fn counted(resyncs: ResyncsEnded, end: ResyncEnd) -> ResyncsEnded
             finished: count_more(resyncs.finished),
             ..resyncs
         },
-        ResyncEnd::Partial => ResyncsEnded {
+        ResyncEnd::Incomplete | ResyncEnd::Partial => ResyncsEnded {
             partial: count_more(resyncs.partial),
             ..resyncs
         },
@@ -302,8 +302,8 @@ impl PeerRecord {
         self.resyncs_learned = counted(self.resyncs_learned, end);
     }
 
-    /// Notes that the connection ended, unless it was given up for another one before a session began. Counts the end of a session that
-    /// had begun.
+    /// Notes that the connection ended, and why unless it was given up for another one before a session began. Counts the end of a session
+    /// that had begun, and notes when that was.
     pub fn end(&mut self, end: SessionEnd, now: u64)
         ensures { self.new ≡ ended end now self.old }
     {
@@ -313,6 +313,7 @@ impl PeerRecord {
         self.role = None;
         self.version = None;
         if stood {
+            self.since = now;
             self.ended = counted_end(self.ended, end);
         }
         if stood || end != SessionEnd::Replaced {
@@ -320,11 +321,10 @@ impl PeerRecord {
         }
     }
 
-    /// Notes when a connection ended and why, and counts the fault if the peer had one.
+    /// Notes why a connection ended at `now`, and counts the fault if the peer had one.
     fn note_end(&mut self, end: SessionEnd, now: u64)
         ensures { self.new ≡ late end now self.old }
     {
-        self.since = now;
         self.last_end = Some(end);
         if end == SessionEnd::Fault {
             self.faults = count_more(self.faults);

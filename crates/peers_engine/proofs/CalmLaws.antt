@@ -27,7 +27,7 @@ use Rattle.session_core.specs.Manners as manners
 use Rattle.session_core.specs.Shares.{all_quiet, is_out, out_set, quiet_set}
 use Rattle.session_core.specs.Actions.{reopens}
 use Rattle.session_core.specs.Courses.{Course, ack_received, acknowledged}
-use Rattle.session_core.specs.Paces.{Pace, inferred, is_ahead}
+use Rattle.session_core.specs.Paces.{Pace, has_left, inferred, is_ahead}
 use Rattle.session_core.specs.Keeping.{KeptSession, Steps, StepsAs, is_staying, standing}
 use Rattle.session_core.specs.Sessions.{SessionState, FinishesResync, GoesIn, GoesOpen, HasNothing, Settles, StartsPendingResync, state_of}
 use Rattle.session_core.specs.Standing.{StandingState, Stands, TicksIn, Writes, answer_of_refusal, finished_if, heartbeats, leaving, reopening, without_tables, word_of}
@@ -211,7 +211,7 @@ stands_mute : (s : StandingState) (now : ℕ) (event : Event) (acts : List Actio
 stands_mute s now events.Opened acts e mild (goes, pace) = goes_mute s.session.phase s.session events.Opened acts e.session refl goes
 stands_mute s now events.End acts e mild (goes, pace) = goes_mute s.session.phase s.session events.End acts e.session refl goes
 stands_mute s now events.Ask acts e mild (goes, pace) = goes_mute s.session.phase s.session events.Ask acts e.session refl goes
-stands_mute s now events.CaughtUp acts e mild (goes, pace) = goes_mute s.session.phase s.session (word_of s.pace.left) acts e.session (word_mild s.pace.left) goes
+stands_mute s now events.CaughtUp acts e mild (goes, pace) = goes_mute s.session.phase s.session (word_of (has_left s.pace.progress)) acts e.session (word_mild (has_left s.pace.progress)) goes
 stands_mute s now events.Tick acts e mild (asked, (left, rest, ticks, is)) = are_at is_mute acts _ is (both_all is_mute (reopening left) rest (reopening_mute left) (ticks_mute _ s.session.phase s e now left rest ticks))
 stands_mute s now events.ReadFault acts e mild (goes, pace) = goes_mute s.session.phase s.session events.ReadFault acts e.session refl goes
 stands_mute s now events.WriteFault acts e mild (goes, pace) = goes_mute s.session.phase s.session events.WriteFault acts e.session refl goes

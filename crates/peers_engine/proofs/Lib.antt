@@ -3,7 +3,7 @@ mod CallLaws
 mod ActLaws
 mod CalmLaws
 mod CauseLaws
-mod EndLaws
+mod DueLaws
 mod HaltLaws
 mod MomentLaws
 mod OneActionLaws

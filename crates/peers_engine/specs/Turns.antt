@@ -12,6 +12,8 @@ use Rattle.session_core.specs.Keeping.{KeptSession, Steps}
 use Rattle.session_core.specs.Happenings.{Walks}
 use Rattle.session_core.specs.Sessions.{state_of}
 use Rattle.session_core.specs.Hearing.{asked_in}
+use Rattle.session_core.specs.Phases.{Phase}
+use Rattle.session_core.specs.Phases as phases
 use Rattle.table_shards.specs.Receipts.{SeatState}
 use Rattle.table_shards.specs.Rounds.{ShardsState}
 use Rattle.peers_engine.specs.declared.errors.EngineError.{EngineError}
@@ -101,3 +103,20 @@ abbrev pub StopsTurn : ShardsState → Type 0 → Worker → Option Event → En
 StopsTurn shards untouched w received error out e seat =
     (untouched × (received ≡ None) × Halts shards w (first_event (state_of w.session.session.phase)) error out e seat)
     ⊎ ((mid : Worker) × Idles w (first_event (state_of w.session.session.phase)) mid × HaltsAt shards mid received error out e seat)
+
+-- ---- between turns
+
+-- no answer is due
+abbrev pub HasNothingDue : Phase → Type 0
+HasNothingDue (phases.New hello c) = c.due ≡ []
+HasNothingDue (phases.Hello greeter bytes c) = c.due ≡ []
+HasNothingDue (phases.Open c) = c.due ≡ []
+HasNothingDue phases.Ended = Unit {0}
+
+-- an event that the node gives a session by itself: a turn, a tick, a request for a resync, or word that the node is up to date
+abbrev pub is_own : Event → Bool
+is_own events.Turn = true
+is_own events.Tick = true
+is_own events.Ask = true
+is_own events.CaughtUp = true
+is_own event = false

@@ -2,9 +2,13 @@
 
 ghost use Rattle.std.specs.Prelude.{◌≡◌, ◌∷◌, ◌++◌, ◌⊎◌, [], ℕ, true, Err, List};
 ghost use Rattle.session_core.specs.declared.action.Action.{Action};
-ghost use Rattle.session_core.specs.Sessions.{SessionState};
+ghost use Rattle.session_core.specs.declared.error.SessionError.{SessionError};
+ghost use Rattle.session_core.specs.declared.error.SessionError.TheVariants as refusals;
+ghost use Rattle.session_core.specs.Phases.{Phase};
+ghost use Rattle.session_core.specs.Sessions.{Refuses, SessionState};
+ghost use Rattle.table_types.specs.Tables.{Definition};
 ghost use Rattle.session_core.specs.declared.event.Event.{Event};
-ghost use Rattle.session_core.specs.Happenings.{Happening, Lasts, Walks};
+ghost use Rattle.session_core.specs.Happenings.{Begins, Happening, Lasts, Walks};
 ghost use Rattle.session_core.specs.Keeping.{KeptSession};
 ghost use Rattle.session_core.specs.Hearing.{asked_in};
 ghost use Rattle.table_types.specs.declared.copies.CopyKind.{CopyKind};
@@ -19,7 +23,7 @@ ghost use Rattle.peers_engine.specs.declared.errors.EngineError.{EngineError};
 ghost use Rattle.peers_engine.specs.Acting.{Acts, EndsAlike, IsRefused, Worker, stands};
 ghost use Rattle.peers_engine.specs.Calls.{CallsCopyOn, CallsLearnOn, moment_at};
 ghost use Rattle.peers_engine.specs.Doing.{IsStrange, IsUnasked, KeepsRefusal};
-ghost use Rattle.peers_engine.specs.Turns.{Halts, Idles, Moves, Reacts, Turns};
+ghost use Rattle.peers_engine.specs.Turns.{Halts, HasNothingDue, Idles, Moves, Reacts, Turns, is_own};
 
 /// A session that stays is never late: no table refuses to learn a row or to copy a batch with `MomentBack`, since the call comes at
 /// the turn's moment, or at the table's latest one if that is later. So `Strange` of such a session never has that cause.
@@ -63,4 +67,17 @@ pub fn what_is_written_is_the_run()
         ⊎ ((acts before rest : List Action) × (answers : List (Event × List Action)) × (first last : List ℕ) × (mid : KeptSession) × (at : Worker)
         × Walks w.now w.session ((event, acts) ∷ answers) at.session × Acts (stands w mid w.seat) before answers first at
         × (acts ++ asked_in answers ≡ before ++ rest) × (out ≡ first ++ last) × EndsAlike at.session e) }
+{}
+
+/// Nothing is due between turns. No answer is due in a new session, nor after an event of a turn, or one of this node's own, before
+/// which none was, once all that it asked for is done without an error. So a session refuses no turn, tick or request for a resync between
+/// turns, and no word that this node is up to date, as one for which it didn't ask: it refuses them only once it is over, or for want of
+/// memory.
+pub fn nothing_is_due_between_turns()
+    ensures begins { (roster : List Definition) (s : KeptSession) → Begins roster s → HasNothingDue s.session.phase }
+    ensures reacts { (w e : Worker) (event : Event) (out : List ℕ) → HasNothingDue w.session.session.phase → Reacts w event out e →
+        HasNothingDue e.session.session.phase }
+    ensures idles { (w e : Worker) (event : Event) → HasNothingDue w.session.session.phase → Idles w event e → HasNothingDue e.session.session.phase }
+    ensures refused { (phase : Phase) (event : Event) (error : SessionError) → HasNothingDue phase → is_own event ≡ true →
+        Refuses phase event error → (error ≡ refusals.Ended) ⊎ (error ≡ refusals.Memory) }
 {}

@@ -24,8 +24,8 @@ pub use errors::EngineError;
 pub use fused::Fused;
 pub use gate::{AlwaysOpen, Gate, Stage};
 pub use laws::{
-    no_late_call_comes_too_early, what_a_worker_does_happens, what_is_strange_was_refused,
-    what_is_written_is_the_run,
+    no_late_call_comes_too_early, nothing_is_due_between_turns, what_a_worker_does_happens,
+    what_is_strange_was_refused, what_is_written_is_the_run,
 };
 pub use outcome::Outcome;
 pub use peers_devices::{Counting, Faults};

@@ -43,7 +43,7 @@ use Rattle.session_core.specs.Actions.{control_text, sends_acks, status_text}
 use Rattle.session_core.specs.Courses.{Course, course_begun, staying, course_fed, teaching_anew, requested, acknowledged, ack_received, said, message_received, AreReceived, ReceivesAll, acks_given, table_to_ask}
 use Rattle.session_core.specs.Sessions.{SessionState, going, Concludes, ReceivesBytes, first_word, IsWelcomed, Connects, Accepts, Greets, GoesIn, GoesNew, GoesHello, GoesOpen, Turns, HasNothing, FinishesResync, StartsPendingResync, Settles, opening, speaking}
 use Rattle.session_core.specs.Runs.{IsBegun}
-use Rattle.session_core.specs.Paces.{Pace, has_passed, push_time, is_rested, inferred, awaits_names}
+use Rattle.session_core.specs.Paces.{Pace, has_passed, push_time, is_rested, inferred, awaits_names, has_left}
 use Rattle.session_core.specs.Standing.{StandingState, is_open, is_reopen, changed, finished_if, finishing, Does, task_at, TakesTurn, Writes, Stands, without_tables, leaving, TicksIn, word_of}
 use Rattle.session_core.specs.Happenings.{Happening}
 use Rattle.session_core.proofs.MachineRuns.{Happens, Lasts, BeginsToStay}
@@ -402,7 +402,7 @@ rare_stands (events.Refused table) s e now acts stays (goes, paces) = rare_in (e
 rare_stands (events.Copied table batch) s e now acts stays (goes, paces) = rare_in (events.Copied table batch) s.session.phase s.session (events.Copied table batch) acts e.session stays goes
 rare_stands events.Opened s e now acts stays (goes, paces) = rare_in events.Opened s.session.phase s.session events.Opened acts e.session stays goes
 rare_stands events.Ask s e now acts stays (goes, paces) = rare_in events.Ask s.session.phase s.session events.Ask acts e.session stays goes
-rare_stands events.CaughtUp s e now acts stays (goes, paces) = rare_in events.CaughtUp s.session.phase s.session (word_of s.pace.left) acts e.session stays goes
+rare_stands events.CaughtUp s e now acts stays (goes, paces) = rare_in events.CaughtUp s.session.phase s.session (word_of (has_left s.pace.progress)) acts e.session stays goes
 rare_stands events.Tick s e now acts stays (asked, (left, rest, ticks, is)) = (stays_ticks _ s.session.phase s e now left rest refl stays ticks, inr (inr (inl refl)))
 rare_stands events.End s e now acts stays (goes, paces) = rare_in events.End s.session.phase s.session events.End acts e.session stays goes
 rare_stands events.ReadFault s e now acts stays (goes, paces) = rare_in events.ReadFault s.session.phase s.session events.ReadFault acts e.session stays goes

@@ -1,7 +1,6 @@
 -- What a session of either manner counts of the bytes that open it and of those after them, however they are cut.
-use Rattle.std.proofs.Common.{◌≡◌, ◌⊎◌, ℕ, Bool, List, [], ◌∷◌, ◌++◌, refl, sym, ap, ◌∙◌, subst, inl, inr, append_assoc}
+use Rattle.std.proofs.Common.{◌≡◌, ℕ, Bool, List, [], ◌∷◌, ◌++◌, refl, sym, ap, ◌∙◌, subst, inl, inr, append_assoc}
 use Rattle.std.proofs.lemmas.List.{append-nil}
-use Rattle.table_types.specs.declared.copies.Settled.{Settled}
 use Rattle.peers_msg.specs.Integers.{IsBytes}
 use Rattle.peers_msg.proofs.CuttingIndependence.{front_good}
 use Rattle.peers_hello.specs.Meetings.{Meeting, Opens, Refuses, Waits}

@@ -43,7 +43,7 @@ use Rattle.session_core.specs.Actions.{sends_control, sends_acks, status_text, r
 use Rattle.session_core.specs.Acks.{ack_of}
 use Rattle.session_core.specs.Courses.{Course, course_fed, is_held, teaching_anew, requested, acknowledged, ack_received, said, message_received, AreReceived, ReceivesAll, acks_given, table_to_ask}
 use Rattle.session_core.specs.Sessions.{SessionState, going, Concludes, ReceivesBytes, first_word, IsWelcomed, Connects, Accepts, Greets, GoesIn, GoesNew, GoesHello, GoesOpen, Turns, HasNothing, FinishesResync, StartsPendingResync, Settles, opening, speaking}
-use Rattle.session_core.specs.Paces.{inferred}
+use Rattle.session_core.specs.Paces.{inferred, has_left}
 use Rattle.session_core.specs.Standing.{StandingState, shared, finished_if, finishing, begun_resync, Does, task_at, TakesTurn, Writes, Stands, without_tables, leaving, heartbeats, TicksIn, word_of, reopening}
 use Rattle.session_core.specs.Happenings.{Happening, is_tick, leaves, was_left, is_about}
 use Rattle.session_core.proofs.MachineRuns.{Happens, Lasts}
@@ -441,7 +441,7 @@ past_stands t (events.Refused table) s e now acts none (goes, paces) = past_in t
 past_stands t (events.Copied table batch) s e now acts none (goes, paces) = past_in t s.session.phase s.session (events.Copied table batch) acts e.session none goes
 past_stands t events.Opened s e now acts none (goes, paces) = past_in t s.session.phase s.session events.Opened acts e.session none goes
 past_stands t events.Ask s e now acts none (goes, paces) = past_in t s.session.phase s.session events.Ask acts e.session none goes
-past_stands t events.CaughtUp s e now acts none (goes, paces) = past_in t s.session.phase s.session (word_of s.pace.left) acts e.session none goes
+past_stands t events.CaughtUp s e now acts none (goes, paces) = past_in t s.session.phase s.session (word_of (has_left s.pace.progress)) acts e.session none goes
 past_stands t events.Tick s e now acts none (asked, (left, rest, ticks, is)) =
     let past = past_ticks t _ s.session.phase s e now left rest refl none ticks in
     (ap (concerns t) is ∙ concerns_append t (reopening left) rest (unlisted_left t _ s.session.phase s e now left rest refl none ticks) past.0, past.1)

@@ -11,6 +11,7 @@ mod ConfirmedLaws
 mod FaultLaws
 mod StepIsUnique
 mod CountedOnce
+pub mod DueCounts
 mod ReceivingGoesOn
 mod BytesStay
 mod SomeStep
@@ -26,6 +27,7 @@ mod StandingEnds
 mod StandingFinish
 mod NamesKept
 mod LeftForGood
+mod LeftNoted
 mod AsksFree
 mod StaysOut
 mod ReopensApart

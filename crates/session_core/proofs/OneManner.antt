@@ -48,7 +48,7 @@ use Rattle.session_core.specs.Sessions.{SessionState, Accepts, Concludes, Connec
 use Rattle.session_core.specs.declared.action.Action.TheVariants as actions
 use Rattle.session_core.specs.Manners.{Manner}
 use Rattle.session_core.specs.Manners as manners
-use Rattle.session_core.specs.Paces.{inferred, is_ahead}
+use Rattle.session_core.specs.Paces.{inferred, is_ahead, has_left}
 use Rattle.session_core.specs.Standing.{StandingState, Does, Stands, TakesTurn, TicksIn, Writes, answer_of_refusal, changed, finished_if, finishing, leaving, stood, task_at, without_tables, word_of}
 use Rattle.session_core.specs.Keeping.{AreKeptAs, IsKeptAs, KeptSession, StepsAs, is_staying, manner_of, standing}
 
@@ -267,7 +267,7 @@ stands_so b events.Tick s e now acts kept (asked, (left, rest, ticks, is)) = tic
 stands_so b (events.Written known) s e now acts kept writes = writes_so b s.session.phase s e now known acts kept writes
 stands_so b (events.Copied table batch) s e now acts kept (goes, paces) = goes_so b s.session.phase s.session (events.Copied table batch) acts e.session kept goes
 stands_so b (events.Refused table) s e now acts kept (goes, paces) = goes_so b s.session.phase s.session (answer_of_refusal (is_ahead table s.pace.progress) table) acts e.session kept goes
-stands_so b events.CaughtUp s e now acts kept (goes, paces) = goes_so b s.session.phase s.session (word_of s.pace.left) acts e.session kept goes
+stands_so b events.CaughtUp s e now acts kept (goes, paces) = goes_so b s.session.phase s.session (word_of (has_left s.pace.progress)) acts e.session kept goes
 stands_so b events.Ask s e now acts kept (goes, paces) = goes_so b s.session.phase s.session events.Ask acts e.session kept goes
 stands_so b events.Opened s e now acts kept (goes, paces) = goes_so b s.session.phase s.session events.Opened acts e.session kept goes
 stands_so b events.End s e now acts kept (goes, paces) = goes_so b s.session.phase s.session events.End acts e.session kept goes

@@ -29,7 +29,7 @@ use Rattle.session_core.specs.Actions.{sends_control, status_text}
 use Rattle.session_core.specs.Courses.{Course, course_fed, acknowledged, ack_received, ReceivesAll, acks_given}
 use Rattle.session_core.specs.Sessions.{SessionState, Concludes, ReceivesBytes, IsWelcomed, Connects, Accepts, Greets, GoesIn, GoesNew, GoesHello, GoesOpen, HasNothing, FinishesResync, StartsPendingResync, Settles, first_word, opening, speaking, Goes}
 use Rattle.session_core.specs.Runs.{copies, is_copy_of}
-use Rattle.session_core.specs.Paces.{inferred, is_ahead}
+use Rattle.session_core.specs.Paces.{inferred, is_ahead, has_left}
 use Rattle.session_core.specs.Standing.{StandingState, Writes, answer_of_refusal, word_of, reopening, finished_if, leaving, without_tables, heartbeats, TicksIn, Stands}
 use Rattle.session_core.proofs.TickGives.{after_reopening}
 use Rattle.session_core.proofs.EndLemmas.{is_plain, plain_append, plain_all, plain_acks, plain_ready, plain_status, plain_reopens, plain_word}
@@ -210,7 +210,7 @@ only_turns_copy s e now (events.Refused other) acts table (goes, paces) copied =
 only_turns_copy s e now (events.Copied other batch) acts table (goes, paces) copied = clash (events.Copied other batch) table acts copied (copied_in table s.session.phase s.session (events.Copied other batch) acts e.session tt goes)
 only_turns_copy s e now events.Opened acts table (goes, paces) copied = clash events.Opened table acts copied (copied_in table s.session.phase s.session events.Opened acts e.session tt goes)
 only_turns_copy s e now events.Ask acts table (goes, paces) copied = clash events.Ask table acts copied (copied_in table s.session.phase s.session events.Ask acts e.session tt goes)
-only_turns_copy s e now events.CaughtUp acts table (goes, paces) copied = clash events.CaughtUp table acts copied (copied_in table s.session.phase s.session _ acts e.session (other_word s.pace.left) goes)
+only_turns_copy s e now events.CaughtUp acts table (goes, paces) copied = clash events.CaughtUp table acts copied (copied_in table s.session.phase s.session _ acts e.session (other_word (has_left s.pace.progress)) goes)
 only_turns_copy s e now events.Tick acts table (asked, (left, rest, ticks, is)) copied = clash events.Tick table acts copied (ap (copies table) is ∙ copied_ticks table _ s.session.phase s e now left rest ticks)
 only_turns_copy s e now events.End acts table (goes, paces) copied = clash events.End table acts copied (copied_in table s.session.phase s.session events.End acts e.session tt goes)
 only_turns_copy s e now events.ReadFault acts table (goes, paces) copied = clash events.ReadFault table acts copied (copied_in table s.session.phase s.session events.ReadFault acts e.session tt goes)

@@ -18,7 +18,7 @@ use Rattle.session_core.specs.Shares.{is_out}
 use Rattle.session_core.specs.Courses.{Course, teaching_anew, acknowledged, ack_received, is_due, none_due}
 use Rattle.session_core.specs.Sessions.{SessionState, GoesOpen, going, ended, is_asked}
 use Rattle.session_core.specs.Runs.{HoldsBytes, BringsBytes}
-use Rattle.session_core.specs.Paces.{has_passed, heartbeat_time, silence_time, renewed, inferred, is_ahead, noted, copied_in, last_number, tables_to_leave, left_in}
+use Rattle.session_core.specs.Paces.{has_passed, heartbeat_time, silence_time, renewed, inferred, is_ahead, noted, copied_in, last_number, tables_to_leave, left_in, has_left}
 use Rattle.session_core.specs.Standing.{StandingState, is_send, paced, HandsOn, finished_if, finishing, begun_resync, Does, task_at, TakesTurn, Writes, answer_of_refusal, Stands, without_tables, leaving, heartbeats, forgetting, any_left, word_of, reopening, TicksIn}
 use Rattle.session_core.proofs.BytesStay.{step_holds}
 use Rattle.session_core.proofs.SomeStep.{some_step}
@@ -94,7 +94,7 @@ holds_stands (events.Refused table) s e now acts holds brings (goes, paces) =
 holds_stands (events.Copied table batch) s e now acts holds brings (goes, paces) = step_holds s.session e.session (events.Copied table batch) acts holds brings goes
 holds_stands events.Opened s e now acts holds brings (goes, paces) = step_holds s.session e.session events.Opened acts holds brings goes
 holds_stands events.Ask s e now acts holds brings (goes, paces) = step_holds s.session e.session events.Ask acts holds brings goes
-holds_stands events.CaughtUp s e now acts holds brings (goes, paces) = step_holds s.session e.session (word_of s.pace.left) acts holds (brings_word s.pace.left) goes
+holds_stands events.CaughtUp s e now acts holds brings (goes, paces) = step_holds s.session e.session (word_of (has_left s.pace.progress)) acts holds (brings_word (has_left s.pace.progress)) goes
 holds_stands events.Tick s e now acts holds brings (asked, (left, rest, ticks, is)) = holds_ticks _ s.session.phase s e now left rest refl holds ticks
 holds_stands events.End s e now acts holds brings (goes, paces) = step_holds s.session e.session events.End acts holds brings goes
 holds_stands events.ReadFault s e now acts holds brings (goes, paces) = step_holds s.session e.session events.ReadFault acts holds brings goes
@@ -166,7 +166,7 @@ some_tick false (phases.Open c) s now =
     let acts : List Action = (leaving left c).0 ++ heartbeats (has_passed heartbeat_time s.pace.sent now) in (
       left,
       acts,
-      record { session = going (forgetting left s.session) (leaving left c).1; pace = record s.pace { sent = renewed (list_any is_send acts) now s.pace.sent; left = any_left left || s.pace.left; progress = left_in left s.pace.progress } },
+      record { session = going (forgetting left s.session) (leaving left c).1; pace = record s.pace { sent = renewed (list_any is_send acts) now s.pace.sent; progress = left_in left s.pace.progress } },
       (refl, refl, refl, refl),
     )
 some_tick false (phases.New hello c) s now = ([], [], s, (refl, refl, refl))
@@ -195,7 +195,7 @@ some_event (events.Copied table batch) s now holds brings asked =
     )
 some_event events.Opened s now holds brings asked = some_hands events.Opened s now holds brings asked
 some_event events.Ask s now holds brings asked = some_hands events.Ask s now holds brings asked
-some_event events.CaughtUp s now holds brings asked = some_hands (word_of s.pace.left) s now holds (brings_word s.pace.left) (asked_word s.session.phase s.pace.left ∙ asked)
+some_event events.CaughtUp s now holds brings asked = some_hands (word_of (has_left s.pace.progress)) s now holds (brings_word (has_left s.pace.progress)) (asked_word s.session.phase (has_left s.pace.progress) ∙ asked)
 some_event events.Tick s now holds brings asked = some_ticks s now asked
 some_event events.End s now holds brings asked = some_hands events.End s now holds brings asked
 some_event events.ReadFault s now holds brings asked = some_hands events.ReadFault s now holds brings asked

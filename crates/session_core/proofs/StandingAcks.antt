@@ -24,7 +24,7 @@ use Rattle.session_core.specs.Phases as phases
 use Rattle.session_core.specs.Actions.{reopens}
 use Rattle.session_core.specs.Courses.{Course, table_to_ask, ack_received, acknowledged, teaching_anew}
 use Rattle.session_core.specs.Sessions.{SessionState, GoesIn, GoesNew, GoesHello, GoesOpen, Turns, HasNothing, FinishesResync, StartsPendingResync, Settles, Goes}
-use Rattle.session_core.specs.Paces.{Pace, progress_of, with_copy, copied_in, last_number, with_ack, acknowledged_in, with_row, received_in, with_leave, left_in, noted_one, noted, is_number, inferred, is_ahead}
+use Rattle.session_core.specs.Paces.{Pace, progress_of, with_copy, copied_in, last_number, with_ack, acknowledged_in, with_row, received_in, with_leave, left_in, noted_one, noted, is_number, inferred, is_ahead, has_left}
 use Rattle.session_core.specs.Standing.{StandingState, finished_if, finishing, begun_resync, Does, task_at, TakesTurn, Writes, answer_of_refusal, Stands, TicksIn, word_of, reopening, leaving, without_tables, heartbeats}
 use Rattle.session_core.specs.Happenings.{Happening, is_ack_of, acknowledges, brings_ack, was_acknowledged}
 use Rattle.session_core.proofs.MachineRuns.{Happens, Lasts, BeginsToStay, at}
@@ -344,7 +344,7 @@ brought (events.Written known) steps s e now acts real writes = brought_writes s
 brought (events.Refused table) steps s e now acts real (goes, pace) = brought_none steps now (events.Refused table) acts (none_in s.session.phase s.session _ acts e.session (other_refusal (is_ahead table s.pace.progress) table) goes)
 brought events.Opened steps s e now acts real (goes, pace) = brought_none steps now events.Opened acts (none_in s.session.phase s.session events.Opened acts e.session tt goes)
 brought events.Ask steps s e now acts real (goes, pace) = brought_none steps now events.Ask acts (none_in s.session.phase s.session events.Ask acts e.session tt goes)
-brought events.CaughtUp steps s e now acts real (goes, pace) = brought_none steps now events.CaughtUp acts (none_in s.session.phase s.session _ acts e.session (other_word s.pace.left) goes)
+brought events.CaughtUp steps s e now acts real (goes, pace) = brought_none steps now events.CaughtUp acts (none_in s.session.phase s.session _ acts e.session (other_word (has_left s.pace.progress)) goes)
 brought events.Tick steps s e now acts real (asked, (left, rest, ticks, is)) = brought_none steps now events.Tick acts (none_is acts _ is (none_after left rest (none_ticks _ s.session.phase s e now left rest ticks)))
 brought events.End steps s e now acts real (goes, pace) = brought_none steps now events.End acts (none_in s.session.phase s.session events.End acts e.session tt goes)
 brought events.ReadFault steps s e now acts real (goes, pace) = brought_none steps now events.ReadFault acts (none_in s.session.phase s.session events.ReadFault acts e.session tt goes)

@@ -38,7 +38,7 @@ use Rattle.session_core.specs.Actions.{sends_control, status_text, reopens}
 use Rattle.session_core.specs.Courses.{Course, course_fed, teaching_anew, acknowledged, ack_received, ReceivesAll, acks_given, table_to_ask, none_due, kind_of}
 use Rattle.session_core.specs.Sessions.{SessionState, is_asked, Concludes, ReceivesBytes, first_word, IsWelcomed, Connects, Accepts, Greets, GoesIn, GoesNew, GoesHello, GoesOpen, Turns, HasNothing, FinishesResync, StartsPendingResync, Settles, opening, speaking}
 use Rattle.session_core.specs.Runs.{copies, reopened, is_end, ends_resync, IsLeft, HasNothingLeft, HasNothingOut}
-use Rattle.session_core.specs.Paces.{inferred, is_ahead}
+use Rattle.session_core.specs.Paces.{inferred, is_ahead, has_left}
 use Rattle.session_core.specs.Standing.{StandingState, finished_if, begun_resync, Does, task_at, TakesTurn, Writes, answer_of_refusal, Stands, without_tables, leaving, heartbeats, TicksIn, word_of, reopening}
 use Rattle.session_core.specs.Happenings.{Happening, handed, is_tick, reopened_in, leaves, was_left}
 use Rattle.session_core.proofs.MachineRuns.{Happens, Lasts, BeginsToStay}
@@ -169,7 +169,7 @@ kept_stands ids steps (events.Written known) s e now acts other kept writes = ke
 kept_stands ids steps (events.Refused table) s e now acts other kept (goes, paces) = kept_refused ids steps (is_ahead table s.pace.progress) s.session table acts e.session kept goes
 kept_stands ids steps events.Opened s e now acts other kept (goes, paces) = goes_kept true ids steps s.session.phase s.session events.Opened acts e.session kept goes
 kept_stands ids steps events.Ask s e now acts other kept (goes, paces) = goes_kept true ids steps s.session.phase s.session events.Ask acts e.session kept goes
-kept_stands ids steps events.CaughtUp s e now acts other kept (goes, paces) = word_kept ids steps s.pace.left s.session acts e.session kept goes
+kept_stands ids steps events.CaughtUp s e now acts other kept (goes, paces) = word_kept ids steps (has_left s.pace.progress) s.session acts e.session kept goes
 kept_stands ids steps events.Tick s e now acts other kept stands = absurd (false≢true (sym other))
 kept_stands ids steps events.End s e now acts other kept (goes, paces) = goes_kept true ids steps s.session.phase s.session events.End acts e.session kept goes
 kept_stands ids steps events.ReadFault s e now acts other kept (goes, paces) = goes_kept true ids steps s.session.phase s.session events.ReadFault acts e.session kept goes
@@ -454,7 +454,7 @@ end_stands ds steps (events.Refused table) s e now acts other kept (goes, paces)
 end_stands ds steps (events.Copied table batch) s e now acts other kept (goes, paces) comes = never_ends acts (endless_in s.session.phase s.session (events.Copied table batch) acts e.session tt goes) comes
 end_stands ds steps events.Opened s e now acts other kept (goes, paces) comes = never_ends acts (endless_in s.session.phase s.session events.Opened acts e.session tt goes) comes
 end_stands ds steps events.Ask s e now acts other kept (goes, paces) comes = never_ends acts (endless_in s.session.phase s.session events.Ask acts e.session tt goes) comes
-end_stands ds steps events.CaughtUp s e now acts other kept (goes, paces) comes = never_ends acts (endless_in s.session.phase s.session _ acts e.session (endless_word s.pace.left) goes) comes
+end_stands ds steps events.CaughtUp s e now acts other kept (goes, paces) comes = never_ends acts (endless_in s.session.phase s.session _ acts e.session (endless_word (has_left s.pace.progress)) goes) comes
 end_stands ds steps events.Tick s e now acts other kept stands comes = absurd (false≢true (sym other))
 end_stands ds steps events.End s e now acts other kept (goes, paces) comes = never_ends acts (endless_in s.session.phase s.session events.End acts e.session tt goes) comes
 end_stands ds steps events.ReadFault s e now acts other kept (goes, paces) comes = never_ends acts (endless_in s.session.phase s.session events.ReadFault acts e.session tt goes) comes

@@ -39,12 +39,13 @@ use Rattle.session_core.specs.Actions.{control_text, sends_control, status_text,
 use Rattle.session_core.specs.Courses.{Course, course_fed, is_held, teaching_anew, requested, acknowledged, ack_received, said, message_received, AreReceived, ReceivesAll, table_to_ask, finished}
 use Rattle.session_core.specs.Sessions.{SessionState, going, Concludes, ReceivesBytes, first_word, IsWelcomed, Connects, Accepts, Greets, GoesIn, GoesNew, GoesHello, GoesOpen, Turns, HasNothing, FinishesResync, StartsPendingResync, Settles, opening, speaking}
 use Rattle.session_core.specs.Runs.{is_end, ends_resync}
-use Rattle.session_core.specs.Paces.{Pace, inferred, is_ahead}
+use Rattle.session_core.specs.Paces.{Pace, has_left, inferred, is_ahead, last_number}
 use Rattle.session_core.specs.Standing.{StandingState, finished_if, finishing, begun_resync, Does, task_at, TakesTurn, Writes, Stands, without_tables, leaving, any_left, heartbeats, TicksIn, word_of, reopening, is_reopen, answer_of_refusal}
 use Rattle.session_core.specs.Happenings.{Happening, is_tick, leaves_any, is_finish}
 use Rattle.session_core.proofs.MachineRuns.{Happens, Lasts, BeginsToStay}
 use Rattle.session_core.proofs.TickGives.{any_reopened, none_reopening, tick_or_not}
 use Rattle.session_core.proofs.EndLemmas.{plain_reopens}
+use Rattle.session_core.proofs.LeftNoted.{copied_left, left_noted, noted_left}
 use Rattle.session_core.proofs.StandingEnds.{end_ack, endless_in, endless_refusal, endless_word}
 
 -- ---- whether this node is up to date
@@ -236,7 +237,7 @@ refused_word : (b : Bool) (table : ℕ) → IsNoWord (answer_of_refusal b table)
 refused_word true table = tt
 refused_word false table = tt
 
-up_stands : (b : Bool) (event : Event) (s e : StandingState) (now : ℕ) (acts : List Action) → is_tick event ≡ false → s.pace.left ≡ true → IsUp b s.session.phase → Stands s now event acts e → IsUp b e.session.phase
+up_stands : (b : Bool) (event : Event) (s e : StandingState) (now : ℕ) (acts : List Action) → is_tick event ≡ false → has_left s.pace.progress ≡ true → IsUp b s.session.phase → Stands s now event acts e → IsUp b e.session.phase
 up_stands b (events.Bytes bytes) s e now acts other marked up (goes, paces) = up_in b s.session.phase s.session (events.Bytes bytes) acts e.session up tt goes
 up_stands b events.Turn s e now acts other marked up turns = up_turn b s.session.phase s e now acts refl up turns
 up_stands b (events.Written known) s e now acts other marked up writes = up_writes b s.session.phase s e now known acts up writes
@@ -244,7 +245,7 @@ up_stands b (events.Copied table batch) s e now acts other marked up (goes, pace
 up_stands b (events.Refused table) s e now acts other marked up (goes, paces) = up_in b s.session.phase s.session _ acts e.session up (refused_word (is_ahead table s.pace.progress) table) goes
 up_stands b events.Opened s e now acts other marked up (goes, paces) = up_in b s.session.phase s.session events.Opened acts e.session up tt goes
 up_stands b events.Ask s e now acts other marked up (goes, paces) = up_in b s.session.phase s.session events.Ask acts e.session up tt goes
-up_stands b events.CaughtUp s e now acts other marked up (goes, paces) = up_in b s.session.phase s.session _ acts e.session up (no_word s.pace.left marked) goes
+up_stands b events.CaughtUp s e now acts other marked up (goes, paces) = up_in b s.session.phase s.session _ acts e.session up (no_word (has_left s.pace.progress) marked) goes
 up_stands b events.Tick s e now acts other marked up stands = absurd (false≢true (sym other))
 up_stands b events.End s e now acts other marked up (goes, paces) = up_in b s.session.phase s.session events.End acts e.session up tt goes
 up_stands b events.ReadFault s e now acts other marked up (goes, paces) = up_in b s.session.phase s.session events.ReadFault acts e.session up tt goes
@@ -255,44 +256,44 @@ up_stands b (events.Settled table settled) s e now acts other marked up (goes, p
 -- ---- whether a table was left
 
 -- no event leaves a table
-left_does : (task : Task) (s e : StandingState) (c : Course) (now : ℕ) (acts : List Action) → Does task s c now acts e → e.pace.left ≡ s.pace.left
-left_does tasks.Copy s e c now acts (goes, paces) = ap (λ (p : Pace). p.left) paces
-left_does tasks.Rest s e c now acts (due, is, same) = ap (λ (x : StandingState). x.pace.left) same
-left_does tasks.Begin s e c now acts (due, is, session, paces) = ap (λ (p : Pace). p.left) paces
+left_does : (task : Task) (s e : StandingState) (c : Course) (now : ℕ) (acts : List Action) → Does task s c now acts e → has_left e.pace.progress ≡ has_left s.pace.progress
+left_does tasks.Copy s e c now acts (goes, paces) = ap (λ (p : Pace). has_left p.progress) paces
+left_does tasks.Rest s e c now acts (due, is, same) = ap (λ (x : StandingState). has_left x.pace.progress) same
+left_does tasks.Begin s e c now acts (due, is, session, paces) = ap (λ (p : Pace). has_left p.progress) paces
 
-left_turn : (phase : Phase) (s e : StandingState) (now : ℕ) (acts : List Action) → TakesTurn phase s now acts e → e.pace.left ≡ s.pace.left
+left_turn : (phase : Phase) (s e : StandingState) (now : ℕ) (acts : List Action) → TakesTurn phase s now acts e → has_left e.pace.progress ≡ has_left s.pace.progress
 left_turn (phases.Open c) s e now acts does = left_does (task_at now s.pace c) s e c now acts does
-left_turn (phases.New hello c) s e now acts (goes, paces) = ap (λ (p : Pace). p.left) paces
-left_turn (phases.Hello greeter bytes c) s e now acts (goes, paces) = ap (λ (p : Pace). p.left) paces
-left_turn phases.Ended s e now acts (goes, paces) = ap (λ (p : Pace). p.left) paces
+left_turn (phases.New hello c) s e now acts (goes, paces) = ap (λ (p : Pace). has_left p.progress) paces
+left_turn (phases.Hello greeter bytes c) s e now acts (goes, paces) = ap (λ (p : Pace). has_left p.progress) paces
+left_turn phases.Ended s e now acts (goes, paces) = ap (λ (p : Pace). has_left p.progress) paces
 
-left_writes : (phase : Phase) (s e : StandingState) (now : ℕ) (known : KnownState) (acts : List Action) → Writes phase s now known acts e → e.pace.left ≡ s.pace.left
-left_writes (phases.Open c) s e now known acts (goes, is, paces) = ap (λ (p : Pace). p.left) paces
+left_writes : (phase : Phase) (s e : StandingState) (now : ℕ) (known : KnownState) (acts : List Action) → Writes phase s now known acts e → has_left e.pace.progress ≡ has_left s.pace.progress
+left_writes (phases.Open c) s e now known acts (goes, is, paces) = ap (λ (p : Pace). has_left p.progress) paces
 left_writes (phases.New hello c) s e now known acts writes = absurd writes
 left_writes (phases.Hello greeter bytes c) s e now known acts writes = absurd writes
 left_writes phases.Ended s e now known acts writes = absurd writes
 
-left_stands : (event : Event) (s e : StandingState) (now : ℕ) (acts : List Action) → is_tick event ≡ false → Stands s now event acts e → e.pace.left ≡ s.pace.left
-left_stands (events.Bytes bytes) s e now acts other (goes, paces) = ap (λ (p : Pace). p.left) paces
+left_stands : (event : Event) (s e : StandingState) (now : ℕ) (acts : List Action) → is_tick event ≡ false → Stands s now event acts e → has_left e.pace.progress ≡ has_left s.pace.progress
+left_stands (events.Bytes bytes) s e now acts other (goes, paces) = ap (λ (p : Pace). has_left p.progress) paces ∙ noted_left acts s.pace.progress
 left_stands events.Turn s e now acts other turns = left_turn s.session.phase s e now acts turns
 left_stands (events.Written known) s e now acts other writes = left_writes s.session.phase s e now known acts writes
-left_stands (events.Copied table batch) s e now acts other (goes, paces) = ap (λ (p : Pace). p.left) paces
-left_stands (events.Refused table) s e now acts other (goes, paces) = ap (λ (p : Pace). p.left) paces
-left_stands events.Opened s e now acts other (goes, paces) = ap (λ (p : Pace). p.left) paces
-left_stands events.Ask s e now acts other (goes, paces) = ap (λ (p : Pace). p.left) paces
-left_stands events.CaughtUp s e now acts other (goes, paces) = ap (λ (p : Pace). p.left) paces
+left_stands (events.Copied table batch) s e now acts other (goes, paces) = ap (λ (p : Pace). has_left p.progress) paces ∙ copied_left table (last_number batch) now s.pace.progress
+left_stands (events.Refused table) s e now acts other (goes, paces) = ap (λ (p : Pace). has_left p.progress) paces
+left_stands events.Opened s e now acts other (goes, paces) = ap (λ (p : Pace). has_left p.progress) paces
+left_stands events.Ask s e now acts other (goes, paces) = ap (λ (p : Pace). has_left p.progress) paces
+left_stands events.CaughtUp s e now acts other (goes, paces) = ap (λ (p : Pace). has_left p.progress) paces
 left_stands events.Tick s e now acts other stands = absurd (false≢true (sym other))
-left_stands events.End s e now acts other (goes, paces) = ap (λ (p : Pace). p.left) paces
-left_stands events.ReadFault s e now acts other (goes, paces) = ap (λ (p : Pace). p.left) paces
-left_stands events.WriteFault s e now acts other (goes, paces) = ap (λ (p : Pace). p.left) paces
-left_stands (events.Nothing table) s e now acts other (goes, paces) = ap (λ (p : Pace). p.left) paces
-left_stands (events.Settled table settled) s e now acts other (goes, paces) = ap (λ (p : Pace). p.left) paces
+left_stands events.End s e now acts other (goes, paces) = ap (λ (p : Pace). has_left p.progress) paces
+left_stands events.ReadFault s e now acts other (goes, paces) = ap (λ (p : Pace). has_left p.progress) paces
+left_stands events.WriteFault s e now acts other (goes, paces) = ap (λ (p : Pace). has_left p.progress) paces
+left_stands (events.Nothing table) s e now acts other (goes, paces) = ap (λ (p : Pace). has_left p.progress) paces
+left_stands (events.Settled table settled) s e now acts other (goes, paces) = ap (λ (p : Pace). has_left p.progress) paces
 
 -- ---- ticks
 
 -- a table was left, and this node doesn't count as up to date
 abbrev IsPartial : StandingState → Type 0
-IsPartial s = (s.pace.left ≡ true) × IsUp false s.session.phase
+IsPartial s = (has_left s.pace.progress ≡ true) × IsUp false s.session.phase
 
 -- if a table was left, this is known, and this node doesn't count as up to date
 abbrev IsMarked : Bool → StandingState → Type 0
@@ -302,11 +303,6 @@ IsMarked left s = left ≡ true → IsPartial s
 left_before : (was : Bool) (now : ℕ) (left : List ℕ) (acts : List Action) → left ≡ [] → (was || any_left left) ≡ true → was ≡ true
 left_before true now left acts none so = refl
 left_before false now left acts none so = absurd (false≢true (sym (ap (λ (xs : List ℕ). any_left xs) none) ∙ so))
-
-left_leaving : (was before : Bool) (now : ℕ) (left : List ℕ) (acts : List Action) → (was ≡ true → before ≡ true) → (was || any_left left) ≡ true → (any_left left || before) ≡ true
-left_leaving true before now [] acts marked so = marked refl
-left_leaving false before now [] acts marked so = absurd (false≢true so)
-left_leaving was before now (table ∷ tables) acts marked so = refl
 
 marked_leaving : (was : Bool) (now : ℕ) (left : List ℕ) (acts : List Action) (c : Course) → (was ≡ true → c.up_to_date ≡ false) → (was || any_left left) ≡ true → (leaving left c).1.up_to_date ≡ false
 marked_leaving true now [] acts c marked so = marked refl
@@ -318,11 +314,11 @@ marked_still was now left acts s e none same marked = λ so. subst IsPartial (sy
 
 marked_ticks : (was silent : Bool) (phase : Phase) (s e : StandingState) (now : ℕ) (left : List ℕ) (acts : List Action) → s.session.phase ≡ phase → IsMarked was s → TicksIn silent phase s now left acts e → IsMarked (was || any_left left) e
 marked_ticks was true phase s e now left acts stands marked (leaves, is, session, paces) = λ so. (
-  ap (λ (p : Pace). p.left) paces ∙ (marked (left_before was now left acts leaves so)).0,
+  ap (λ (p : Pace). has_left p.progress) paces ∙ (marked (left_before was now left acts leaves so)).0,
   up_at false e.session _ session tt,
 )
 marked_ticks was false (phases.Open c) s e now left acts stands marked (leaves, is, session, paces) = λ so. (
-  ap (λ (p : Pace). p.left) paces ∙ left_leaving was s.pace.left now left acts (λ was_so. (marked was_so).0) so,
+  ap (λ (p : Pace). has_left p.progress) paces ∙ left_noted was now left s.pace.progress c.shares leaves (λ was_so. (marked was_so).0) so,
   up_at false e.session _ session (marked_leaving was now left acts c (λ was_so. subst (IsUp false) stands (marked was_so).1) so),
 )
 marked_ticks was false (phases.New hello c) s e now left acts stands marked (leaves, is, same) = marked_still was now left acts s e leaves same marked
@@ -468,7 +464,7 @@ partial_stands (events.Refused table) s e now acts up (goes, paces) = none_finis
 partial_stands (events.Copied table batch) s e now acts up (goes, paces) = none_finished acts (endless_in s.session.phase s.session (events.Copied table batch) acts e.session tt goes)
 partial_stands events.Opened s e now acts up (goes, paces) = none_finished acts (endless_in s.session.phase s.session events.Opened acts e.session tt goes)
 partial_stands events.Ask s e now acts up (goes, paces) = none_finished acts (endless_in s.session.phase s.session events.Ask acts e.session tt goes)
-partial_stands events.CaughtUp s e now acts up (goes, paces) = none_finished acts (endless_in s.session.phase s.session _ acts e.session (endless_word s.pace.left) goes)
+partial_stands events.CaughtUp s e now acts up (goes, paces) = none_finished acts (endless_in s.session.phase s.session _ acts e.session (endless_word (has_left s.pace.progress)) goes)
 partial_stands events.Tick s e now acts up (asked, (left, rest, ticks, is)) =
     ap (list_any is_finish) is ∙ (list_any-append is_finish (reopening left) rest ∙ neither _ _ (reopening_finishes left) (partial_ticks _ s.session.phase s e now left rest ticks))
 partial_stands events.End s e now acts up (goes, paces) = none_finished acts (endless_in s.session.phase s.session events.End acts e.session tt goes)

@@ -16,7 +16,7 @@ use Rattle.session_core.specs.Actions.{confirms, is_confirmation, reopens}
 use Rattle.session_core.specs.Courses.{Course, acknowledged, ack_received, teaching_anew}
 use Rattle.session_core.specs.Sessions.{SessionState, Goes}
 use Rattle.session_core.specs.Hearing.{bytes_of, heard_in}
-use Rattle.session_core.specs.Paces.{has_passed, heartbeat_time, inferred, is_ahead, silence_time}
+use Rattle.session_core.specs.Paces.{has_passed, heartbeat_time, inferred, is_ahead, silence_time, has_left}
 use Rattle.session_core.specs.Standing.{StandingState, changed, finished_if, finishing, begun_resync, forgetting, heartbeats, leaving, without_tables, Does, task_at, TakesTurn, Writes, answer_of_refusal, Stands, TicksIn, word_of, reopening}
 use Rattle.session_core.specs.Happenings.{Happening, handed}
 use Rattle.session_core.proofs.MachineRuns.{Ticks, Happens, at}
@@ -168,7 +168,7 @@ stands_moves (events.Written known) s e now acts writes = writes_moves s.session
 stands_moves (events.Refused table) s e now acts (goes, paces) = refused_moves (is_ahead table s.pace.progress) s.session e.session now table acts goes
 stands_moves events.Opened s e now acts (goes, paces) = inl (events.Opened, acts, goes, refl, refl)
 stands_moves events.Ask s e now acts (goes, paces) = inl (events.Ask, acts, goes, refl, refl)
-stands_moves events.CaughtUp s e now acts (goes, paces) = word_moves s.pace.left s.session e.session now acts goes
+stands_moves events.CaughtUp s e now acts (goes, paces) = word_moves (has_left s.pace.progress) s.session e.session now acts goes
 stands_moves events.Tick s e now acts (asked, (left, rest, ticks, is)) = inr (ticks_silent s e now left rest acts (asked, ticks) is)
 stands_moves events.End s e now acts (goes, paces) = inl (events.End, acts, goes, refl, refl)
 stands_moves events.ReadFault s e now acts (goes, paces) = inl (events.ReadFault, acts, goes, refl, refl)

@@ -16,7 +16,7 @@ use Rattle.session_core.specs.Phases as phases
 use Rattle.session_core.specs.Shares.{is_out}
 use Rattle.session_core.specs.Courses.{Course, acknowledged, ack_received, is_due}
 use Rattle.session_core.specs.Sessions.{SessionState, going, is_asked}
-use Rattle.session_core.specs.Paces.{Pace, has_passed, heartbeat_time, silence_time, renewed, inferred, is_ahead, noted, copied_in, last_number, left_in}
+use Rattle.session_core.specs.Paces.{Pace, has_passed, heartbeat_time, silence_time, renewed, inferred, is_ahead, noted, copied_in, last_number, left_in, has_left}
 use Rattle.session_core.specs.Standing.{StandingState, is_send, paced, HandsOn, Does, task_at, TakesTurn, Writes, answer_of_refusal, Stands, leaving, heartbeats, forgetting, any_left, word_of, reopening, TicksIn}
 use Rattle.session_core.proofs.TickGives.{asked_word}
 use Rattle.session_core.proofs.StepIsUnique.{goes_once}
@@ -88,8 +88,8 @@ ticks_in_once false (phases.Open c) s e end now left tables acts others (leaves,
     let same_acts : acts ≡ others = is ∙ (ap (λ (xs : List ℕ). (leaving xs c).0 ++ heartbeats (has_passed heartbeat_time s.pace.sent now)) same ∙ sym is_too) in
     let same_session : e.session ≡ end.session = session ∙ (ap (λ (xs : List ℕ). going (forgetting xs s.session) (leaving xs c).1) same ∙ sym session_too) in
     let same_paces : e.pace ≡ end.pace =
-    paces ∙ (ap (λ (xs : List Action). record s.pace { sent = renewed (list_any is_send xs) now s.pace.sent; left = any_left left || s.pace.left; progress = left_in left s.pace.progress }) same_acts
-    ∙ (ap (λ (xs : List ℕ). record s.pace { sent = renewed (list_any is_send others) now s.pace.sent; left = any_left xs || s.pace.left; progress = left_in xs s.pace.progress }) same ∙ sym paces_too)) in
+    paces ∙ (ap (λ (xs : List Action). record s.pace { sent = renewed (list_any is_send xs) now s.pace.sent; progress = left_in left s.pace.progress }) same_acts
+    ∙ (ap (λ (xs : List ℕ). record s.pace { sent = renewed (list_any is_send others) now s.pace.sent; progress = left_in xs s.pace.progress }) same ∙ sym paces_too)) in
     (same, same_acts, states e end same_session same_paces)
 ticks_in_once false (phases.New hello c) s e end now left tables acts others (leaves, is, same) (leaves_too, is_too, same_too) = (leaves ∙ sym leaves_too, is ∙ sym is_too, same ∙ sym same_too)
 ticks_in_once false (phases.Hello greeter bytes c) s e end now left tables acts others (leaves, is, same) (leaves_too, is_too, same_too) = (leaves ∙ sym leaves_too, is ∙ sym is_too, same ∙ sym same_too)
@@ -167,7 +167,7 @@ asked_event (events.Refused table) s e now acts (goes, paces) =
 asked_event (events.Copied table batch) s e now acts (goes, paces) = asked_where_goes s.session e.session (events.Copied table batch) acts goes
 asked_event events.Opened s e now acts (goes, paces) = asked_where_goes s.session e.session events.Opened acts goes
 asked_event events.Ask s e now acts (goes, paces) = asked_where_goes s.session e.session events.Ask acts goes
-asked_event events.CaughtUp s e now acts (goes, paces) = sym (asked_word s.session.phase s.pace.left) ∙ asked_where_goes s.session e.session (word_of s.pace.left) acts goes
+asked_event events.CaughtUp s e now acts (goes, paces) = sym (asked_word s.session.phase (has_left s.pace.progress)) ∙ asked_where_goes s.session e.session (word_of (has_left s.pace.progress)) acts goes
 asked_event events.Tick s e now acts (asked, ticks) = asked
 asked_event events.End s e now acts (goes, paces) = asked_where_goes s.session e.session events.End acts goes
 asked_event events.ReadFault s e now acts (goes, paces) = asked_where_goes s.session e.session events.ReadFault acts goes

@@ -14,7 +14,7 @@ use Rattle.session_core.specs.Phases as phases
 use Rattle.session_core.specs.Shares.{any_out}
 use Rattle.session_core.specs.Courses.{Course, table_to_ask}
 use Rattle.session_core.specs.Sessions.{SessionState}
-use Rattle.session_core.specs.Paces.{Pace, renewed, has_passed, heartbeat_time, silence_time, push_time, is_rested, awaits_names, is_ahead}
+use Rattle.session_core.specs.Paces.{Pace, renewed, has_passed, heartbeat_time, silence_time, push_time, is_rested, awaits_names, is_ahead, has_left}
 use Rattle.session_core.specs.Standing.{StandingState, is_open, sends, is_send, HandsOn, Does, task_at, TakesTurn, Writes, answer_of_refusal, Stands, TicksIn, word_of, reopening}
 use Rattle.session_core.specs.Actions.{is_heartbeat}
 use Rattle.session_core.specs.Happenings.{Happening, IsSince, SendsAt, sent_by}
@@ -77,7 +77,7 @@ sent_stands (events.Copied table batch) s e now acts (goes, paces) = ap (λ (p :
 sent_stands (events.Refused table) s e now acts hands = sent_refused (is_ahead table s.pace.progress) s e now table acts hands
 sent_stands events.Opened s e now acts (goes, paces) = ap (λ (p : Pace). p.sent) paces
 sent_stands events.Ask s e now acts (goes, paces) = ap (λ (p : Pace). p.sent) paces
-sent_stands events.CaughtUp s e now acts hands = sent_word s.pace.left s e now acts hands
+sent_stands events.CaughtUp s e now acts hands = sent_word (has_left s.pace.progress) s e now acts hands
 sent_stands events.Tick s e now acts (asked, (left, rest, ticks, is)) =
     sent_ticks _ s.session.phase s e now left rest ticks ∙ ap (λ (b : Bool). renewed b now s.pace.sent) (sym (ap (list_any is_send) is ∙ sends_after left rest))
 sent_stands events.End s e now acts (goes, paces) = ap (λ (p : Pace). p.sent) paces

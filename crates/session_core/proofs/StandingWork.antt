@@ -18,7 +18,7 @@ use Rattle.session_core.specs.Phases as phases
 use Rattle.session_core.specs.Shares.{any_out, all_quiet, is_out, out_set, quiet_set}
 use Rattle.session_core.specs.Courses.{Course, teaching_anew, acknowledged, ack_received, table_to_ask}
 use Rattle.session_core.specs.Sessions.{SessionState, going, GoesIn, GoesNew, GoesHello, GoesOpen, Turns, HasNothing, FinishesResync, StartsPendingResync, Settles}
-use Rattle.session_core.specs.Paces.{inferred}
+use Rattle.session_core.specs.Paces.{inferred, has_left}
 use Rattle.session_core.specs.Standing.{StandingState, finished_if, finishing, Does, task_at, TakesTurn, Writes, Stands, without_tables, leaving, TicksIn, word_of}
 use Rattle.session_core.specs.Happenings.{Happening, HasWork}
 use Rattle.session_core.proofs.MachineRuns.{Happens, Lasts, BeginsToStay}
@@ -191,7 +191,7 @@ orderly_stands (events.Written known) s e now acts stays orderly writes = orderl
 orderly_stands (events.Refused table) s e now acts stays orderly (goes, pace) = orderly_in s.session.phase s.session _ acts e.session stays orderly goes
 orderly_stands events.Opened s e now acts stays orderly (goes, pace) = orderly_in s.session.phase s.session events.Opened acts e.session stays orderly goes
 orderly_stands events.Ask s e now acts stays orderly (goes, pace) = orderly_in s.session.phase s.session events.Ask acts e.session stays orderly goes
-orderly_stands events.CaughtUp s e now acts stays orderly (goes, pace) = orderly_in s.session.phase s.session (word_of s.pace.left) acts e.session stays orderly goes
+orderly_stands events.CaughtUp s e now acts stays orderly (goes, pace) = orderly_in s.session.phase s.session (word_of (has_left s.pace.progress)) acts e.session stays orderly goes
 orderly_stands events.Tick s e now acts stays orderly (asked, (left, rest, ticks, is)) = orderly_ticks _ s.session.phase s e now left rest orderly orderly ticks
 orderly_stands events.End s e now acts stays orderly (goes, pace) = orderly_in s.session.phase s.session events.End acts e.session stays orderly goes
 orderly_stands events.ReadFault s e now acts stays orderly (goes, pace) = orderly_in s.session.phase s.session events.ReadFault acts e.session stays orderly goes

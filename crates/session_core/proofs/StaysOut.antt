@@ -36,7 +36,7 @@ use Rattle.session_core.specs.Shares.{all_quiet, is_out, out_set, quiet_set, unq
 use Rattle.session_core.specs.Actions.{sends_control, status_text}
 use Rattle.session_core.specs.Courses.{Course, course_fed, is_held, teaching_anew, requested, acknowledged, ack_received, said, message_received, AreReceived, ReceivesAll, table_to_ask}
 use Rattle.session_core.specs.Sessions.{SessionState, going, Concludes, ReceivesBytes, first_word, IsWelcomed, Connects, Accepts, Greets, GoesIn, GoesNew, GoesHello, GoesOpen, Turns, HasNothing, FinishesResync, StartsPendingResync, Settles, opening, speaking, Goes}
-use Rattle.session_core.specs.Paces.{inferred, is_ahead}
+use Rattle.session_core.specs.Paces.{inferred, is_ahead, has_left}
 use Rattle.session_core.specs.Standing.{StandingState, is_open, shared, finished_if, finishing, Does, task_at, TakesTurn, Writes, answer_of_refusal, Stands, without_tables, leaving, TicksIn, word_of}
 use Rattle.session_core.specs.Happenings.{Happening, is_tick, leaves, is_settlement, settles_all}
 use Rattle.session_core.proofs.MachineRuns.{Happens, at}
@@ -329,7 +329,7 @@ out_stands t (events.Refused table) s e now acts unsettled other out (goes, pace
 out_stands t (events.Copied table batch) s e now acts unsettled other out (goes, paces) = out_in t s.session.phase s.session (events.Copied table batch) acts e.session unsettled out goes
 out_stands t events.Opened s e now acts unsettled other out (goes, paces) = out_in t s.session.phase s.session events.Opened acts e.session unsettled out goes
 out_stands t events.Ask s e now acts unsettled other out (goes, paces) = out_in t s.session.phase s.session events.Ask acts e.session unsettled out goes
-out_stands t events.CaughtUp s e now acts unsettled other out (goes, paces) = out_in t s.session.phase s.session _ acts e.session (no_settling_word t s.pace.left) out goes
+out_stands t events.CaughtUp s e now acts unsettled other out (goes, paces) = out_in t s.session.phase s.session _ acts e.session (no_settling_word t (has_left s.pace.progress)) out goes
 out_stands t events.Tick s e now acts unsettled other out stands = absurd (false≢true (sym other))
 out_stands t events.End s e now acts unsettled other out (goes, paces) = out_in t s.session.phase s.session events.End acts e.session unsettled out goes
 out_stands t events.ReadFault s e now acts unsettled other out (goes, paces) = out_in t s.session.phase s.session events.ReadFault acts e.session unsettled out goes

@@ -100,6 +100,10 @@ with_leave p = record { table = p.table; names = p.names; last = p.last; since =
 abbrev pub left_in : List ℕ → List Progress → List Progress
 left_in tables ps = map (λ p. if list_any (λ table. table == p.table) tables then with_leave p else p) ps
 
+-- a table was left
+abbrev pub has_left : List Progress → Bool
+has_left ps = list_any (λ p. p.left) ps
+
 -- the remote peer acknowledged a number of `table` above every one that it was taught
 abbrev pub is_ahead : ℕ → List Progress → Bool
 is_ahead table ps = list_any (λ p. p.table == table && p.ahead) ps
@@ -143,18 +147,17 @@ awaits_names (Some table) ps ss = stores_names table ps && list_any (may_lose_na
 -- ---- the pace
 
 -- When this node last sent bytes, when it last received some, when the session opened, and when it last began a resync;
--- whether a table was left; and what was taught and acknowledged of each table. A session
--- that begins to stay counts from that moment.
+-- and what was taught and acknowledged of each table, and whether it was left. A session that begins to stay counts from
+-- that moment.
 pub record Pace : Type 0 where
   pub sent : ℕ
   pub heard : ℕ
   pub opened : ℕ
   pub reopened : Option ℕ
-  pub left : Bool
   pub progress : List Progress
 
 abbrev pub pace_at : ℕ → List Definition → Pace
-pace_at now roster = record { sent = now; heard = now; opened = now; reopened = None; left = false; progress = progress_of now roster }
+pace_at now roster = record { sent = now; heard = now; opened = now; reopened = None; progress = progress_of now roster }
 
 -- `now`, if so; otherwise the moment before
 abbrev pub renewed : Bool → ℕ → ℕ → ℕ

@@ -20,7 +20,7 @@ use Rattle.session_core.specs.Shares.{any_out, all_quiet}
 use Rattle.session_core.specs.Actions.{reopens, sends_control}
 use Rattle.session_core.specs.Courses.{Course, staying, teaching_anew, ack_received, finished, table_to_ask}
 use Rattle.session_core.specs.Sessions.{SessionState, Goes, seen, in_phase, going, ended, is_asked}
-use Rattle.session_core.specs.Paces.{Pace, heartbeat_time, silence_time, push_time, has_passed, pace_at, renewed, is_rested, copied_in, last_number, noted, is_ahead, inferred, tables_to_leave, left_in, awaits_names}
+use Rattle.session_core.specs.Paces.{Pace, heartbeat_time, silence_time, push_time, has_passed, pace_at, renewed, is_rested, copied_in, last_number, noted, is_ahead, inferred, tables_to_leave, left_in, has_left, awaits_names}
 
 pub record StandingState : Type 0 where
   pub session : SessionState
@@ -181,7 +181,7 @@ TicksIn false (phases.Open c) s now left acts e =
     (left ≡ tables_to_leave now s.pace.progress c.shares)
     × (acts ≡ (leaving left c).0 ++ heartbeats (has_passed heartbeat_time s.pace.sent now))
     × (e.session ≡ going (forgetting left s.session) (leaving left c).1)
-    × (e.pace ≡ record s.pace { sent = renewed (list_any is_send acts) now s.pace.sent; left = any_left left || s.pace.left; progress = left_in left s.pace.progress })
+    × (e.pace ≡ record s.pace { sent = renewed (list_any is_send acts) now s.pace.sent; progress = left_in left s.pace.progress })
 TicksIn false phase s now left acts e = (left ≡ []) × (acts ≡ []) × (e ≡ s)
 
 abbrev pub reopening : List ℕ → List Action
@@ -216,5 +216,5 @@ Stands s now (events.Copied table batch) acts e =
 Stands s now (events.Written known) acts e = Writes s.session.phase s now known acts e
 Stands s now (events.Refused table) acts e = HandsOn s now (answer_of_refusal (is_ahead table s.pace.progress) table) acts e
 Stands s now events.Tick acts e = TakesTick s now acts e
-Stands s now events.CaughtUp acts e = HandsOn s now (word_of s.pace.left) acts e
+Stands s now events.CaughtUp acts e = HandsOn s now (word_of (has_left s.pace.progress)) acts e
 Stands s now event acts e = HandsOn s now event acts e

@@ -38,8 +38,6 @@ pub(crate) struct Pace {
     pub(crate) opened: u64,
     /// When this node last began a resync.
     pub(crate) reopened: Option<u64>,
-    /// Whether a table was left.
-    pub(crate) left: bool,
     /// The progress in each table, in roster order.
     pub(crate) progress: Vec<Progress>,
 }
@@ -56,7 +54,7 @@ impl Model for Pace {
 
     ghost Value = { Pace };
 
-    ghost view = { λ p. record { sent = p.sent; heard = p.heard; opened = p.opened; reopened = p.reopened; left = p.left; progress = p.progress.items } };
+    ghost view = { λ p. record { sent = p.sent; heard = p.heard; opened = p.opened; reopened = p.reopened; progress = p.progress.items } };
 }
 
 impl Pace {
@@ -69,7 +67,6 @@ impl Pace {
             heard: now,
             opened: now,
             reopened: None,
-            left: false,
             progress: progress_of(alloc, roster.tables(), now)?,
         })
     }
@@ -89,13 +86,10 @@ impl Pace {
         }
     }
 
-    /// Notes that these tables are left, if there are any.
+    /// Notes that these tables are left.
     pub(crate) fn leave(&mut self, tables: &[u64])
-        ensures { self.new ≡ record self.old { left = any_left tables.now || self.old.left; progress = left_in tables.now self.old.progress } }
+        ensures { self.new ≡ record self.old { progress = left_in tables.now self.old.progress } }
     {
-        if any_left(tables) {
-            self.left = true;
-        }
         note_left(self.progress.as_mut_slice(), tables);
     }
 

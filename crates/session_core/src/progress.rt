@@ -1,7 +1,7 @@
 //! How far the remote peer has acknowledged what it was taught.
 
 ghost use Rattle.std.specs.Prelude.{◌≡◌, IfOk};
-ghost use Rattle.session_core.specs.Paces.{progress_of, last_number, copied_in, acknowledged_in, received_in, noted_one, noted, left_in, is_ahead, is_number, inferred, is_overdue, tables_to_leave, stores_names, may_lose_names, awaits_names};
+ghost use Rattle.session_core.specs.Paces.{progress_of, last_number, copied_in, acknowledged_in, received_in, noted_one, noted, left_in, has_left, is_ahead, is_number, inferred, is_overdue, tables_to_leave, stores_names, may_lose_names, awaits_names};
 ghost use Rattle.std.specs.List.{list_any};
 
 use crate::action::Action;
@@ -144,6 +144,18 @@ pub(crate) fn note_left(progress: &mut [Progress], left: &[u64])
             entry.left = true;
         }
     }
+}
+
+/// Returns whether a table was left.
+pub(crate) fn has_left(progress: &[Progress]) -> bool
+    ensures { result ≡ has_left progress.now }
+{
+    for entry in progress {
+        if entry.left {
+            return true;
+        }
+    }
+    false
 }
 
 /// Returns whether the remote peer acknowledged a number of `table` above every one that it was taught.

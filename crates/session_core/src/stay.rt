@@ -15,7 +15,7 @@ ghost use Rattle.session_core.specs.AskedCounts.{all_asked};
 ghost use Rattle.session_core.specs.HeardCounts.{CountsEvent};
 ghost use Rattle.session_core.specs.Courses.{is_due, none_due};
 ghost use Rattle.session_core.specs.Sessions.{Keeps, Refuses, IsWhy, ended, phase_of, seen};
-ghost use Rattle.session_core.specs.Paces.{has_passed, heartbeat_time, is_ahead};
+ghost use Rattle.session_core.specs.Paces.{has_left, has_passed, heartbeat_time, is_ahead};
 ghost use Rattle.session_core.specs.Standing.{stood, brings_bytes, is_send, Listens, Does, TakesTurn, Writes, Stands, TicksAs, TakesTick, HandsOn, answer_of_refusal, word_of, any_left, heartbeats};
 
 use crate::action::Action;
@@ -29,7 +29,7 @@ use crate::machine::Machine;
 use crate::pace::{Pace, Task, any_left};
 use crate::phase::Stage;
 use crate::progress::{
-    inferred, is_ahead, last_number, note_actions, note_copy, note_left, tables_to_leave,
+    has_left, inferred, is_ahead, last_number, note_actions, note_copy, note_left, tables_to_leave,
 };
 use crate::receiving::push_control;
 use crate::times;
@@ -407,13 +407,13 @@ impl Stay {
         alloc: Global,
         now: u64,
     ) -> Result<Vec<Action>, SessionError>
-        ensures hands { IfOk result (λ acts. HandsOn (stood machine.old self.old) now (word_of self.old.pace.left) acts.items (stood machine.new self.new)) }
+        ensures hands { IfOk result (λ acts. HandsOn (stood machine.old self.old) now (word_of (has_left self.old.pace.progress)) acts.items (stood machine.new self.new)) }
         ensures heard { OnOk result (machine.new.heard ≡ machine.old.heard) }
         ensures refused { IfErr result (λ e. Refuses (phase_of machine.old.stage machine.old.course) events.CaughtUp e) }
         ensures counts { OnOk result (self.new.counts ≡ self.old.counts) }
         ensures kept { OnErr result (Keeps machine.old machine.new × (self.new ≡ self.old)) }
     {
-        if self.pace.left {
+        if has_left(self.pace.progress.as_slice()) {
             self.hand_on(machine, alloc, Event::Tick, now)
         } else {
             self.hand_on(machine, alloc, Event::CaughtUp, now)

@@ -1,6 +1,6 @@
 //! Whom the node asks for all rows, for the threads that it concerns.
 
-use node_core::{Asking, WaitEnd};
+use node_core::{Asking, ResyncEnd, WaitEnd};
 use std::alloc::{AllocError, Global};
 use std::sync::{Mutex, Wait};
 
@@ -11,6 +11,17 @@ pub(crate) struct Passed {
     pub(crate) unanswered: Option<(usize, WaitEnd)>,
     /// Whether the node has just become up to date, since nobody has more to teach.
     pub(crate) settled: bool,
+}
+
+/// Whether a peer may be asked for all rows on its session.
+#[derive(Clone, Copy, Debug, PartialEq, Eq)]
+pub(crate) enum Offer {
+    /// Not yet.
+    Waits,
+    /// Yes.
+    Open,
+    /// No longer: it has answered, and the node is up to date.
+    Over,
 }
 
 /// How a node catches up: the machine that decides it, under a lock.
@@ -32,6 +43,12 @@ impl CatchingUp {
     pub(crate) fn is_up_to_date<R: Wait>(&self, rt: &R) -> bool {
         let asking = self.asking.lock(rt);
         asking.is_up_to_date()
+    }
+
+    /// Returns whether a peer has taught the node all rows, so that no peer is asked from now on.
+    pub(crate) fn is_taught<R: Wait>(&self, rt: &R) -> bool {
+        let asking = self.asking.lock(rt);
+        asking.is_taught()
     }
 
     /// Notes that a session with the peer with this index begins.
@@ -58,16 +75,16 @@ impl CatchingUp {
         asking.hear(peer, now);
     }
 
-    /// Notes that the peer with this index has ended its resync as finished. Returns whether the node becomes up to date by that.
-    pub(crate) fn finish<R: Wait>(&self, rt: &R, peer: usize) -> bool {
+    /// Notes how the resync has ended for which the peer with this index was asked. Returns whether the node becomes up to date by that.
+    pub(crate) fn end_resync<R: Wait>(&self, rt: &R, peer: usize, end: ResyncEnd) -> bool {
         let mut asking = self.asking.lock(rt);
-        asking.finish(peer)
-    }
-
-    /// Notes that the peer with this index has ended its resync as partial.
-    pub(crate) fn finish_partly<R: Wait>(&self, rt: &R, peer: usize) {
-        let mut asking = self.asking.lock(rt);
-        asking.finish_partly(peer);
+        match end {
+            ResyncEnd::Finished => return asking.finish(peer),
+            ResyncEnd::Incomplete => asking.finish_incompletely(peer),
+            ResyncEnd::Partial => asking.finish_partly(peer),
+            ResyncEnd::Broken => {}
+        }
+        false
     }
 
     /// Notes that the node was held up until `now`.

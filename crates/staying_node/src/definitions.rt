@@ -99,6 +99,43 @@ impl Comparison {
     }
 }
 
+/// Returns how a peer defines the table with this name, if it has defined it.
+fn shape_of<'a>(name: &[u8], reader: &'a Reader) -> Option<TableShape<'a>> {
+    let table = reader.received().named(name)?;
+    Some(match reader.loose(table.id()) {
+        Some(loose) => TableShape::new(
+            loose.kind,
+            loose.key_length,
+            loose.types.as_slice(),
+            loose.further,
+        ),
+        None => TableShape::of(table),
+    })
+}
+
+/// Returns whether a peer has defined all these tables of this node, each as the node does.
+pub(crate) fn are_alike(tables: &[TableDef], reader: &Reader) -> bool {
+    tables.iter().all(|table| match shape_of(table.name(), reader) {
+        Some(theirs) => TableShape::of(table).difference(&theirs).is_none(),
+        None => false,
+    })
+}
+
+/// Returns the name of the first table that the peer has defined and this node can't have, by the peer's ids, and whether it stores data
+/// types from 20 up.
+pub(crate) fn first_passed_over(reader: &Reader) -> Option<(&[u8], bool)> {
+    let received = reader.received();
+    let mut id = 0;
+    for _ in 0..received.count() {
+        let table = received.table_above(id)?;
+        id = table.id();
+        if let Some(loose) = reader.loose(id) {
+            return Some((table.name(), loose.further));
+        }
+    }
+    None
+}
+
 /// A look at what a peer has defined.
 #[derive(Drop)]
 struct Look<'a, N> {
@@ -142,20 +179,6 @@ impl<'a, N: Wait + Clock> Look<'a, N> {
         place.node.log_peer_event(place.rt, place.peer, event);
     }
 
-    /// Returns how the peer defines the table with this name, if it has defined it.
-    fn defined(&self, name: &[u8]) -> Option<TableShape<'a>> {
-        let table = self.reader.received().named(name)?;
-        Some(match self.reader.loose(table.id()) {
-            Some(loose) => TableShape::new(
-                loose.kind,
-                loose.key_length,
-                loose.types.as_slice(),
-                loose.further,
-            ),
-            None => TableShape::of(table),
-        })
-    }
-
     /// Returns what differs in a table, and has the log say that, or that the peer hasn't defined the table, if it is news.
     fn compare_table(
         &self,
@@ -163,7 +186,7 @@ impl<'a, N: Wait + Clock> Look<'a, N> {
         finding: &mut TableFinding,
     ) -> Result<Option<Difference>, AllocError> {
         let own = TableShape::of(table);
-        let theirs = self.defined(table.name());
+        let theirs = shape_of(table.name(), self.reader);
         let difference = match &theirs {
             Some(theirs) => own.difference(theirs),
             None => None,
@@ -223,7 +246,7 @@ impl<'a, N: Wait + Clock> Look<'a, N> {
         tables.iter().any(|table| is_same_name(table.name(), name))
     }
 
-    /// Returns how many tables the peer has defined that this node lacks, and has the log say which these are, each once.
+    /// Returns how many tables the peer has defined that this node lacks, and has the log say which of these it could have, each once.
     fn look_for_unshared(&self, said: &mut SaidNames) -> Result<u64, AllocError> {
         let received = self.reader.received();
         let mut count = 0u64;
@@ -235,7 +258,9 @@ impl<'a, N: Wait + Clock> Look<'a, N> {
             id = table.id();
             if !self.is_shared(table.name()) {
                 count = count.saturating_add(1);
-                self.say_unshared(table.name(), said)?;
+                if self.reader.loose(id).is_none() {
+                    self.say_unshared(table.name(), said)?;
+                }
             }
         }
         Ok(count)

@@ -7,7 +7,7 @@ use crate::node::{Node, address_text, host_text};
 use crate::slot::{Arrival, Slot};
 use node_core::{Accepting, Event, HelloRefusal, Port, Sender, is_longest};
 use node_log::{Form, Told, called_by, push_line, said_version, sender_of, status_of};
-use node_rules::{Kept, LOOK, SaidPart, Stay, hello_refusal, names_sender, said_in};
+use node_rules::{Kept, LOOK, SaidPart, Stay, hello_refusal, late_refusal, names_sender, said_in};
 use node_text::push_number;
 use peers_hello::{Answer, Hello};
 use std::alloc::Global;
@@ -83,7 +83,7 @@ enum Found {
     Peer(Name),
     /// Another connection, for which the door closes its own.
     Other(Arrival),
-    /// Nothing to hand over: the hello was refused, wasn't whole in time, or the connection ended.
+    /// Nothing to hand over: the hello was refused, as one that isn't whole in time is, or the connection ended.
     Nothing,
 }
 
@@ -98,9 +98,9 @@ fn slot_of<'a>(node: &'a Node, name: &Name) -> Option<&'a Slot> {
 }
 
 /// Returns whether the peer with this index may come from an address.
-fn may_come(node: &Node, peer: usize, address: Option<SocketAddr>) -> bool {
+fn may_come(node: &Node, peer: usize, address: SocketAddr) -> bool {
     match node.configuration.peers.get(peer) {
-        Some(peer) => peer.may_come_from(address.map(|address| address.ip())),
+        Some(peer) => peer.may_come_from(Some(address.ip())),
         None => false,
     }
 }
@@ -178,18 +178,18 @@ fn tell_of_refusal<'x, R: Wait + Clock>(
     node.log.add(rt, peer, &event)
 }
 
-/// Says in the log that a hello is refused, whose sender calls itself `name`, which is empty if it says no name, and which said this
-/// instead of what it should, if that is news.
+/// Says in the log that a hello from `far` is refused, whose sender calls itself `name`, which is empty if it says no name, and which said
+/// this instead of what it should, if that is news.
 fn log_refusal<R: Wait + Clock>(
     rt: &R,
     node: &Node,
     doors: &Doors,
-    stream: &TcpStream,
+    far: SocketAddr,
     refusal: HelloRefusal,
     name: &[u8],
     said: &[u8],
 ) {
-    let far = stream.peer_addr().ok();
+    let far = Some(far);
     let text = address_text(node.alloc, far);
     let address = text.as_str();
     if let Some(peer) = peer_with(node, name) {
@@ -282,12 +282,13 @@ impl<'a, R: Wait + Clock> Door<'a, R> {
     /// Waits for a connection, for at most `ACCEPT`, and returns it.
     fn accept(&self) -> Option<Arrival> {
         match self.listener.accept() {
-            Ok((stream, _)) => {
+            Ok((stream, far)) => {
                 self.doors.accepting.lock(self.rt).accept();
                 let number = self.doors.accepted.fetch_add(1, Ordering::SeqCst);
                 Some(Arrival {
                     number,
                     stream: greeted(stream).ok()?,
+                    far,
                     bytes: Vec::new(self.node.alloc),
                 })
             }
@@ -323,16 +324,17 @@ impl<'a, R: Wait + Clock> Door<'a, R> {
     }
 
     /// Returns what the bytes of a hello come to, or `None` if it isn't whole. One that is refused gets its code.
-    fn answer(&self, stream: &TcpStream, bytes: &[u8]) -> Option<Found> {
+    fn answer(&self, arrival: &Arrival) -> Option<Found> {
         let node = self.node;
         let own = &node.configuration.node;
+        let bytes = arrival.bytes.as_slice();
         let Ok(answer) = Hello::read(node.alloc, bytes, own, node.names.as_slice()) else {
             return Some(Found::Nothing);
         };
         match answer {
-            Answer::Accepted(name, _, _) => Some(self.admit(stream, bytes, name)),
+            Answer::Accepted(name, _, _) => Some(self.admit(arrival, name)),
             Answer::Refused(status, _) => {
-                self.refuse_hello(stream, bytes, status);
+                self.refuse_hello(arrival, status);
                 Some(Found::Nothing)
             }
             Answer::More => None,
@@ -340,51 +342,58 @@ impl<'a, R: Wait + Clock> Door<'a, R> {
     }
 
     /// Returns what the hello of the peer with this name comes to: it is refused if the peer may not come from where it came.
-    fn admit(&self, stream: &TcpStream, bytes: &[u8], name: Name) -> Found {
-        let comes = self.may_come(stream, &name);
+    fn admit(&self, arrival: &Arrival, name: Name) -> Found {
+        let comes = self.may_come(arrival, &name);
         match hello_refusal(None, comes) {
             None => Found::Peer(name),
             Some(refusal) => {
-                self.turn_away(stream, refusal, name.as_slice(), said_by(refusal, bytes));
+                let said = said_by(refusal, arrival.bytes.as_slice());
+                self.turn_away(arrival, refusal, name.as_slice(), said);
                 Found::Nothing
             }
         }
     }
 
     /// Refuses a hello that the protocol refuses with this status.
-    fn refuse_hello(&self, stream: &TcpStream, bytes: &[u8], status: u16) {
+    fn refuse_hello(&self, arrival: &Arrival, status: u16) {
         if let Some(refusal) = hello_refusal(Some(status), false) {
+            let bytes = arrival.bytes.as_slice();
             let sender = if names_sender(refusal) {
                 sender_of(bytes)
             } else {
                 &[]
             };
-            self.turn_away(stream, refusal, sender, said_by(refusal, bytes));
+            self.turn_away(arrival, refusal, sender, said_by(refusal, bytes));
         }
     }
 
     /// Returns whether a connection comes from where the peer with this name may come.
-    fn may_come(&self, stream: &TcpStream, name: &Name) -> bool {
+    fn may_come(&self, arrival: &Arrival, name: &Name) -> bool {
         match peer_with(self.node, name.as_slice()) {
-            Some(peer) => may_come(self.node, peer, stream.peer_addr().ok()),
+            Some(peer) => may_come(self.node, peer, arrival.far),
             None => false,
         }
     }
 
     /// Refuses a hello, whose sender calls itself `name`, which is empty if it says no name, and which said this instead of what it should,
     /// and says it in the log if that is news.
-    fn turn_away(&self, stream: &TcpStream, refusal: HelloRefusal, name: &[u8], said: &[u8]) {
+    fn turn_away(&self, arrival: &Arrival, refusal: HelloRefusal, name: &[u8], said: &[u8]) {
         let node = self.node;
         let status = status_of(refusal);
         node.count_refused(status);
-        log_refusal(self.rt, node, self.doors, stream, refusal, name, said);
-        let _refused = refuse(node.alloc, stream, status);
+        log_refusal(self.rt, node, self.doors, arrival.far, refusal, name, said);
+        let _refused = refuse(node.alloc, &arrival.stream, status);
     }
 
     /// Returns why the door goes on with no more of a hello that began at `begun`, if it doesn't at `now`: the node stops, the hello takes
-    /// too long, or another connection comes and this one has been silent longest.
-    fn leaves(&self, begun: u64, now: u64) -> Option<Found> {
-        if self.node.stops() || now.saturating_sub(begun) >= HELLO {
+    /// too long and is refused, or another connection comes and this one has been silent longest.
+    fn leaves(&self, arrival: &Arrival, begun: u64, now: u64) -> Option<Found> {
+        if self.node.stops() {
+            return Some(Found::Nothing);
+        }
+        if now.saturating_sub(begun) >= HELLO {
+            let refusal = late_refusal(!arrival.bytes.is_empty());
+            self.turn_away(arrival, refusal, &[], &[]);
             return Some(Found::Nothing);
         }
         if !self.doors.is_first(self.rt, self.index) {
@@ -406,14 +415,14 @@ impl<'a, R: Wait + Clock> Door<'a, R> {
                 More::Came => {
                     let came = self.node.clock.milliseconds(rt);
                     self.doors.set(rt, self.index, Some(came));
-                    if let Some(found) = self.answer(&arrival.stream, arrival.bytes.as_slice()) {
+                    if let Some(found) = self.answer(&*arrival) {
                         return found;
                     }
                 }
                 More::Waits => {}
                 More::Over => return Found::Nothing,
             }
-            if let Some(found) = self.leaves(begun, now) {
+            if let Some(found) = self.leaves(&*arrival, begun, now) {
                 return found;
             }
         }

@@ -91,6 +91,18 @@ pub(crate) fn cause_of(end: SessionEnd, head: &[u8]) -> NoSession
     }
 }
 
+/// Returns why this node closed a session, in words that stand behind "closed", or nothing if it did not: neither the node stops nor may no
+/// session stand, since a table gets new numbers.
+pub(crate) fn own_cause(stops: bool, paused: bool) -> &'static str {
+    if stops {
+        "because it is stopping"
+    } else if paused {
+        "because a table is getting new numbers"
+    } else {
+        ""
+    }
+}
+
 /// What the system says of a read and a write that failed, by its numbers, if they did and it says one.
 #[derive(Clone, Copy, Debug)]
 pub(crate) struct FailureCodes {

@@ -91,15 +91,10 @@ pub(crate) fn peer_reports<'a, R: Wait + Clock>(
 
 /// Returns what the health of the node is told by.
 pub(crate) fn health<R: Wait>(rt: &R, node: &Node) -> Health {
-    let mut peers_up = 0u64;
-    for slot in &node.slots {
-        let is_up = slot.status(rt).record.stands();
-        peers_up = peers_up.saturating_add(u64::from(is_up));
-    }
     Health {
         up_to_date: node.catching_up.is_up_to_date(rt),
         peers: node.slots.len() as u64,
-        peers_up,
+        peers_up: node.peers_up(rt),
     }
 }
 

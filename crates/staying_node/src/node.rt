@@ -289,11 +289,23 @@ impl Node {
         }
     }
 
-    /// Waits for the sessions that stand, and then shuts down the connections of those that still do. One that begins later finds that
-    /// the node stops.
-    pub(crate) fn end_sessions<R: Wait + Clock>(&self, rt: &R) {
+    /// Returns how many peers have a session.
+    pub(crate) fn peers_up<R: Wait>(&self, rt: &R) -> u64 {
+        let mut count = 0u64;
+        for slot in &self.slots {
+            let is_up = slot.status(rt).record.stands();
+            count = count.saturating_add(u64::from(is_up));
+        }
+        count
+    }
+
+    /// Waits for the sessions that stand, and then shuts down the connections of those that still do, and returns how many sessions these
+    /// are. One that begins later finds that the node stops.
+    pub(crate) fn end_sessions<R: Wait + Clock>(&self, rt: &R) -> u64 {
         self.wait_for_sessions(rt);
+        let cut = self.peers_up(rt);
         self.shut_all(rt);
+        cut
     }
 
     /// Returns whether no session may stand, since a table gets new numbers.

@@ -275,7 +275,8 @@ where
     shows && start_peers(rt, scope, node, ports, peers)
 }
 
-/// Runs the threads of a node until it stops, of whose configuration the log says this. Returns whether all could be started.
+/// Runs the threads of a node until it stops, of whose configuration the log says this. Returns how many sessions it cut, or `None` if not
+/// all threads could be started.
 fn run_in<
     's,
     X: 's,
@@ -287,7 +288,7 @@ fn run_in<
     ports: &'s Ports,
     seats: Seats,
     notes: StartNotes<'_>,
-) -> bool
+) -> Option<u64>
 where
     N::File: Send + Sync,
     N::Dir: Send + Sync,
@@ -301,8 +302,8 @@ where
     }
     node.stop(rt);
     ports.end(rt, node.alloc);
-    node.end_sessions(rt);
-    starts
+    let cut = node.end_sessions(rt);
+    if starts { Some(cut) } else { None }
 }
 
 /// Makes the node of a configuration, and opens its ports.
@@ -360,15 +361,17 @@ where
         ports.remove_file(rt);
         return Err(StartError::no_thread(alloc));
     };
-    let started = thread::scope(thread::scope_env(), rt, |scope| {
+    let ended = thread::scope(thread::scope_env(), rt, |scope| {
         run_in(rt, scope, &node, &ports, seats, notes)
     });
     ports.remove_file(rt);
+    if let Some(cut) = ended {
+        node.log_event(rt, Event::Stopped { cut });
+    }
     end_log(rt, &node, writer);
-    if started {
-        Ok(())
-    } else {
-        Err(StartError::no_thread(alloc))
+    match ended {
+        Some(_) => Ok(()),
+        None => Err(StartError::no_thread(alloc)),
     }
 }
 

@@ -2,9 +2,12 @@
 
 use crate::acknowledged::are_acknowledged;
 use crate::brought::brought_on;
+use crate::catching_up::Offer;
 use crate::clock::milliseconds;
-use crate::definitions::Comparison;
-use crate::ends::{FailureCodes, cause_of, cause_text, end_of_closed, end_of_error, has_done_all};
+use crate::definitions::{Comparison, are_alike, first_passed_over};
+use crate::ends::{
+    FailureCodes, cause_of, cause_text, end_of_closed, end_of_error, has_done_all, own_cause,
+};
 use crate::inbox::{Inbox, receive};
 use crate::intake::Intake;
 use crate::node::Node;
@@ -14,12 +17,12 @@ use crate::status::Totals;
 use crate::tables::{close, forget, forget_all, number_of, reopen};
 use admin_port::{PassedOver, PeerRole};
 use node_core::{
-    Brought, Busy, Failure, NoSession, PeerEvent, ResyncEnd, SessionEnd, Ticks, Traffic,
+    Brought, Busy, Failure, NoSession, PeerEvent, Process, ResyncEnd, SessionEnd, Ticks, Traffic,
 };
 use node_log::pid_of;
 use node_rules::{
-    EndNews, EndedConnection, Ending, Learning, Outside, Resync, ResyncsHeard, Teaching,
-    end_of_over, resync_end,
+    EndNews, EndedConnection, Ending, Learning, Outside, Resync, ResyncsHeard, Teaching, counts_as,
+    end_of_over, is_asked_on, resync_end,
 };
 use peers_devices::Writes;
 use peers_engine::{AlwaysOpen, EngineError, Outcome, Worker};
@@ -132,6 +135,16 @@ struct Work<'a, N> {
     pid: Option<u64>,
     /// Whether the session knows that the node is up to date.
     up_to_date: bool,
+    /// Whether a peer had taught the node all rows by the last look.
+    is_taught: bool,
+    /// Whether the peer may be asked for all rows.
+    offer: Offer,
+    /// Whether it was asked on this session.
+    has_asked: bool,
+    /// What the peer's hello says of its process, if it sent one.
+    process: Option<Process>,
+    /// Whether the peer had defined all tables as the node does by the last tick.
+    is_alike: bool,
     ending: Ending,
     learning: Learning,
     teaching: Teaching,
@@ -177,6 +190,11 @@ impl<'a, N: Wait + Clock> Work<'a, N> {
             role,
             pid,
             up_to_date: false,
+            is_taught: false,
+            offer: Offer::Waits,
+            has_asked: false,
+            process: None,
+            is_alike: false,
             ending: Ending::new(),
             learning: Learning::new(),
             teaching: Teaching::new(),
@@ -343,7 +361,7 @@ impl<'a, N: Wait + Clock> Work<'a, N> {
         if let Some(end) = self.catch_up(now) {
             return Some(end);
         }
-        if self.up_to_date || !self.ask_if_next() {
+        if !self.ask_if_next() {
             return None;
         }
         self.begin_asking();
@@ -383,7 +401,10 @@ impl<'a, N: Wait + Clock> Work<'a, N> {
         let mut status = self.slot.status(self.rt);
         let process = status.record.begin(now, version, self.pid);
         drop(status);
-        self.node.catching_up.begin(self.rt, self.peer);
+        self.process = match self.pid {
+            Some(_) => Some(process),
+            None => None,
+        };
         self.log(PeerEvent::Connected {
             accepted: self.role == PeerRole::Accept,
             version: version.unwrap_or(Version::V21),
@@ -461,9 +482,46 @@ impl<'a, N: Wait + Clock> Work<'a, N> {
     }
 
     /// Returns whether the peer is to be asked for all rows now, and notes that it was asked if so.
-    fn ask_if_next(&self) -> bool {
+    fn ask_if_next(&mut self) -> bool {
+        if self.is_taught {
+            return false;
+        }
+        self.is_taught = self.node.catching_up.is_taught(self.rt);
+        if self.is_taught || !self.is_offered() {
+            return false;
+        }
         let now = self.node.clock.milliseconds(self.rt);
         self.node.catching_up.asks(self.rt, self.peer, now)
+    }
+
+    /// Returns whether the peer may be asked on this session, and notes since when, or that it may no longer.
+    fn is_offered(&mut self) -> bool {
+        match self.offer {
+            Offer::Waits if self.may_have_more() => {
+                self.offer = Offer::Open;
+                self.node.catching_up.begin(self.rt, self.peer);
+            }
+            Offer::Open if self.has_answered() => {
+                self.offer = Offer::Over;
+                self.node.catching_up.end(self.rt, self.peer);
+            }
+            _ => {}
+        }
+        self.offer == Offer::Open
+    }
+
+    /// Returns whether the peer may have rows that the node lacks.
+    fn may_have_more(&self) -> bool {
+        let up_to_date = self.node.catching_up.is_up_to_date(self.rt);
+        let status = self.slot.status(self.rt);
+        let was_asked = status.was_asked;
+        drop(status);
+        is_asked_on(up_to_date, was_asked, self.process, self.is_alike)
+    }
+
+    /// Returns whether the peer was asked on this session and has answered, at a node that is up to date.
+    fn has_answered(&self) -> bool {
+        self.up_to_date && self.has_asked && !self.learning.is_under_way()
     }
 
     /// Notes that the peer has brought something, if it has since the last look.
@@ -482,6 +540,10 @@ impl<'a, N: Wait + Clock> Work<'a, N> {
         let learned = self.worker.session.counts().learned;
         let heard = heard_in(self.worker.session.controls());
         self.learning.ask(now, learned, heard);
+        let mut status = self.slot.status(self.rt);
+        status.was_asked = true;
+        drop(status);
+        self.has_asked = true;
         self.set_state();
         self.log(PeerEvent::Asked);
     }
@@ -496,6 +558,21 @@ impl<'a, N: Wait + Clock> Work<'a, N> {
         };
         if let Some(reader) = self.worker.session.reader() {
             self.comparison.look(&place, reader);
+            if self.offer == Offer::Waits {
+                self.is_alike = are_alike(self.node.roster.tables(), reader);
+            }
+        }
+    }
+
+    /// Returns what the end of a resync counts as in which the node was the learner. Of a session that is over by then it isn't known which
+    /// tables the peer had defined.
+    fn counted(&self, end: ResyncEnd) -> ResyncEnd {
+        match self.worker.session.reader() {
+            Some(reader) => {
+                let alike = are_alike(self.node.roster.tables(), reader);
+                counts_as(end, reader.received().count(), alike)
+            }
+            None => counts_as(end, 1, false),
         }
     }
 
@@ -521,10 +598,8 @@ impl<'a, N: Wait + Clock> Work<'a, N> {
         let Some(end) = self.learning.end_of(heard) else {
             return;
         };
-        let done = end == ResyncEnd::Finished && self.node.catching_up.finish(self.rt, self.peer);
-        if end == ResyncEnd::Partial {
-            self.node.catching_up.finish_partly(self.rt, self.peer);
-        }
+        let end = self.counted(end);
+        let done = self.node.catching_up.end_resync(self.rt, self.peer, end);
         self.node.tell_of_catching_up(self.rt);
         self.end_learning(end);
         self.set_state();
@@ -560,9 +635,25 @@ impl<'a, N: Wait + Clock> Work<'a, N> {
     /// Adds a line to the log if a table was passed over, once for the session.
     fn look_at_passed_over(&mut self) {
         let counts = self.worker.session.passed_over();
-        if !self.passes_over && (counts.definition > 0 || counts.data_type > 0) {
-            self.passes_over = true;
-            self.log(PeerEvent::PassedOver);
+        if self.passes_over || (counts.definition == 0 && counts.data_type == 0) {
+            return;
+        }
+        self.passes_over = true;
+        self.log_passed_over(counts.data_type > 0);
+    }
+
+    /// Adds a line to the log about the first table that was passed over, or, if it isn't known which that is, about what was.
+    fn log_passed_over(&self, further: bool) {
+        let found = match self.worker.session.reader() {
+            Some(reader) => first_passed_over(reader),
+            None => None,
+        };
+        match found {
+            Some((table, further)) => self.log(PeerEvent::PassedOver { table, further }),
+            None => self.log(PeerEvent::PassedOver {
+                table: &[],
+                further,
+            }),
         }
     }
 
@@ -625,9 +716,19 @@ impl<'a, N: Wait + Clock> Work<'a, N> {
         let now = self.node.clock.milliseconds(self.rt);
         let mut status = self.slot.status(self.rt);
         let far = status.far;
+        let short = status.note_short(end, self.is_given_up(), now);
         status.end(end, now);
         drop(status);
         self.log_end(end, far);
+        if let Some(count) = short {
+            let node = self.node.configuration.node.as_slice();
+            self.log_event_at(far, PeerEvent::ShortSessions { count, node });
+        }
+    }
+
+    /// Returns whether no session may stand: a table gets new numbers, or the node stops.
+    fn is_given_up(&self) -> bool {
+        self.node.stops() || self.node.is_paused()
     }
 
     /// Adds a line to the log about the end of the connection with this far end, unless it is news of nothing: an attempt failed as the one
@@ -640,7 +741,7 @@ impl<'a, N: Wait + Clock> Work<'a, N> {
             lacking: false,
             end,
             status: status_in(self.from.head()),
-            given_up: self.node.stops() || self.node.is_paused(),
+            given_up: self.is_given_up(),
         };
         let cause = cause.as_bytes();
         match connection.news() {
@@ -656,9 +757,14 @@ impl<'a, N: Wait + Clock> Work<'a, N> {
         self.node.log_peer_event_at(self.rt, self.peer, far, event);
     }
 
-    /// Returns what is known of why the session ended so, in words that stand behind "ended", or nothing if memory runs out.
+    /// Returns what is known of why the session ended so, in words that stand behind "ended", or nothing if memory runs out. Of one that was
+    /// closed it is why this node closed it, and nothing if the peer did.
     fn cause(&self, end: SessionEnd) -> String {
         let alloc = self.node.alloc;
+        if end == SessionEnd::End {
+            let cause = own_cause(self.node.stops(), self.node.is_paused());
+            return String::from_str(alloc, cause).unwrap_or(String::new(alloc));
+        }
         let codes = FailureCodes {
             read: self.from.code(),
             write: self.to.code,

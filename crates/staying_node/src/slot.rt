@@ -6,7 +6,7 @@ use crate::status::PeerStatus;
 use node_rules::Arrivals;
 use std::alloc::Global;
 use std::mem;
-use std::net::{Shutdown, TcpStream};
+use std::net::{Shutdown, SocketAddr, TcpStream};
 use std::sync::{Arc, Mutex, MutexGuard, Wait};
 
 /// A connection that a door accepted.
@@ -16,6 +16,8 @@ pub(crate) struct Arrival {
     pub(crate) number: u64,
     /// The connection.
     pub(crate) stream: TcpStream,
+    /// The address of its far end, which the system no longer tells once that has reset the connection.
+    pub(crate) far: SocketAddr,
     /// The bytes that were read from it: its hello, and what came with it.
     pub(crate) bytes: Vec<u8>,
 }

@@ -2,7 +2,7 @@
 
 use admin_port::{PassedOver, PeerRole};
 use node_core::{Difference, SessionEnd};
-use node_rules::PeerRecord;
+use node_rules::{PeerRecord, ShortSessions};
 use session_core::Progress;
 use std::alloc::{AllocError, Global};
 use std::net::SocketAddr;
@@ -69,6 +69,10 @@ impl Totals {
 pub(crate) struct PeerStatus {
     /// What is known of its sessions, but for their connections, and what they did.
     pub(crate) record: PeerRecord,
+    /// Which of its sessions it closed soon after they began.
+    short: ShortSessions,
+    /// Whether it was ever asked for all rows.
+    pub(crate) was_asked: bool,
     /// The far end of the connection, if there is one.
     pub(crate) far: Option<SocketAddr>,
     /// What the sessions that ended did.
@@ -91,6 +95,8 @@ impl PeerStatus {
     pub(crate) fn new(alloc: Global) -> PeerStatus {
         PeerStatus {
             record: PeerRecord::new(),
+            short: ShortSessions::new(),
+            was_asked: false,
             far: None,
             before: Totals::none(),
             present: Totals::none(),
@@ -129,6 +135,16 @@ impl PeerStatus {
         self.present = present;
         self.tables.clear();
         self.tables.extend_from_slice(tables)
+    }
+
+    /// Notes that the session that stands, if one does, ends so, and whether none may stand. Returns how many sessions the peer has closed
+    /// soon after they began, if it is to be told.
+    pub(crate) fn note_short(&mut self, end: SessionEnd, given_up: bool, now: u64) -> Option<u64> {
+        if !self.record.stands() {
+            return None;
+        }
+        let lasted = now.saturating_sub(self.record.since);
+        self.short.end(end, given_up, lasted)
     }
 
     /// Notes that the connection ended.

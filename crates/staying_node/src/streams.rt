@@ -15,8 +15,8 @@ const ACCEPT: u64 = 250;
 /// A connection of a client.
 #[derive(Drop)]
 pub(crate) enum Stream {
-    /// Over TCP.
-    Tcp(TcpStream),
+    /// Over TCP, and the address of the far end, which the system no longer tells once that has reset the connection.
+    Tcp(TcpStream, SocketAddr),
     /// At a file of the system.
     Unix(UnixStream),
 }
@@ -25,7 +25,7 @@ impl Stream {
     /// Has a read wait for at most `time`, in milliseconds.
     pub(crate) fn limit_reads(&self, time: u64) -> io::Result<()> {
         match self {
-            Stream::Tcp(stream) => stream.set_read_timeout(Some(milliseconds(time))),
+            Stream::Tcp(stream, _) => stream.set_read_timeout(Some(milliseconds(time))),
             Stream::Unix(stream) => stream.set_read_timeout(Some(milliseconds(time))),
         }
     }
@@ -33,7 +33,7 @@ impl Stream {
     /// Has a write wait for at most `time`, in milliseconds.
     pub(crate) fn limit_writes(&self, time: u64) -> io::Result<()> {
         match self {
-            Stream::Tcp(stream) => stream.set_write_timeout(Some(milliseconds(time))),
+            Stream::Tcp(stream, _) => stream.set_write_timeout(Some(milliseconds(time))),
             Stream::Unix(stream) => stream.set_write_timeout(Some(milliseconds(time))),
         }
     }
@@ -41,7 +41,7 @@ impl Stream {
     /// Returns the address of the far end, if it has one.
     pub(crate) fn far(&self) -> Option<SocketAddr> {
         match self {
-            Stream::Tcp(stream) => stream.peer_addr().ok(),
+            Stream::Tcp(_, far) => Some(*far),
             Stream::Unix(_) => None,
         }
     }
@@ -49,7 +49,7 @@ impl Stream {
     /// Ends the reads or the writes of the connection, or both.
     pub(crate) fn shutdown(&self, how: Shutdown) -> io::Result<()> {
         match self {
-            Stream::Tcp(stream) => stream.shutdown(how),
+            Stream::Tcp(stream, _) => stream.shutdown(how),
             Stream::Unix(stream) => stream.shutdown(how),
         }
     }
@@ -59,7 +59,7 @@ impl Stream {
         ensures { ReadsAtMost result buffer.new }
     {
         match self {
-            Stream::Tcp(stream) => {
+            Stream::Tcp(stream, _) => {
                 let mut from = stream;
                 from.read(buffer)
             }
@@ -75,7 +75,7 @@ impl Stream {
         ensures { WritesAtMost result bytes.now }
     {
         match self {
-            Stream::Tcp(stream) => {
+            Stream::Tcp(stream, _) => {
                 let mut to = stream;
                 to.write(bytes)
             }
@@ -127,9 +127,9 @@ impl Listener {
     pub(crate) fn accept(&self) -> io::Result<Stream> {
         match self {
             Listener::Tcp(listener) => {
-                let (stream, _) = listener.accept()?;
+                let (stream, far) = listener.accept()?;
                 stream.set_nodelay(true)?;
-                Ok(Stream::Tcp(stream))
+                Ok(Stream::Tcp(stream, far))
             }
             Listener::Unix(listener) => {
                 let (stream, _) = listener.accept()?;

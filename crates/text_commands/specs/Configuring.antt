@@ -3,6 +3,7 @@ use Rattle.std.specs.Prelude.{◌≡◌, ℕ, true, List, Option, Some, None}
 use Rattle.std.specs.Io.KnownBytes.{Appends}
 use Rattle.admin_text.specs.Configurations.{IsConfiguration}
 use Rattle.admin_text.specs.Refusals.{IsFaultless, IsRefusalOf, names_fault}
+use Rattle.admin_text.specs.SoFar.{IsSaidBy}
 use Rattle.admin_text.specs.Statements.{statements_of}
 use Rattle.admin_text.specs.Warnings.{AreWarningsOf}
 use Rattle.admin_text.specs.declared.configurations.Configuration.{Configuration}
@@ -28,6 +29,10 @@ IsInput (Some bytes) text = text ≡ bytes
 -- the input is a configuration of which no line is refused, and none lacks
 abbrev pub IsTaken : Option (List ℕ) → Type 0
 IsTaken input = (text : List ℕ) × IsInput input text × IsFaultless (statements_of text)
+
+-- the configuration says what the lines of the input say, and nothing else
+abbrev pub IsRead : Option (List ℕ) → Configuration → Type 0
+IsRead input c = (text : List ℕ) × IsInput input text × IsSaidBy (statements_of text) c
 
 -- it is one, and these lines warn of what in it is surely meant otherwise
 abbrev pub IsWarned : Option (List ℕ) → List ℕ → Type 0

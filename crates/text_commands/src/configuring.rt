@@ -2,7 +2,7 @@
 ghost use Rattle.std.specs.Prelude.{◌≡◌, ◌≢◌, ◌⊎◌, IfErr, IfOk, OnOk};
 ghost use Rattle.std.specs.Io.KnownBytes.{Appends};
 ghost use Rattle.admin_text.specs.Configurations.{IsConfiguration};
-ghost use Rattle.text_commands.specs.Configuring.{EndsConfiguration, IsSaid, IsTaken, IsWarned};
+ghost use Rattle.text_commands.specs.Configuring.{EndsConfiguration, IsRead, IsSaid, IsTaken, IsWarned};
 
 use crate::endings::Ending;
 use admin_text::{Configuration, ConfigurationError, Warnings, checked_configuration};
@@ -44,6 +44,7 @@ pub fn configuration_of<R: Read + Faults, E: Write + Faults>(
     errors: &mut E,
 ) -> Result<(Configuration, Warnings), Ending>
     ensures configuration { IfOk result (λ read. IsConfiguration read.0) }
+    ensures read { IfOk result (λ read. IsRead (R.remaining input.old) read.0) }
     ensures warned { IfOk result (λ read. IsWarned (R.remaining input.old) read.1.said.items) }
     ensures silent { OnOk result (E.contents errors.new ≡ E.contents errors.old) }
     ensures faultless { OnOk result (IsTaken (R.remaining input.old)) }

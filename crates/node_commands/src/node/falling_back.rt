@@ -2,8 +2,10 @@
 
 ghost use Rattle.std.specs.Prelude.{◌≡◌, ◌⊎◌, ◌&&◌, ℕ, List, None, IfErr, IfOk, if◌then◌else◌};
 ghost use Rattle.std.specs.Io.KnownBytes.{Appends, Consumes};
+ghost use Rattle.peers_devices.specs.Writing.{WriteCounts, no_writes};
 ghost use Rattle.text_commands.specs.declared.endings.Ending.TheVariants as endings;
 ghost use Rattle.node_commands.specs.FallingBack.{IsMeeting};
+ghost use Rattle.node_commands.specs.Turning.{sending, writer};
 
 use crate::node::sharing::Served;
 use crate::node::turns::{Pace, Turns, play};
@@ -45,7 +47,8 @@ impl Node {
         from: &mut R,
         to: &mut W,
     ) -> Result<Meeting, Ending>
-        ensures met { IfOk result (λ meeting. (received sent : List ℕ) × IsMeeting self turns meeting received sent
+        ensures met { IfOk result (λ meeting. (received sent : List ℕ) × (writes : WriteCounts)
+            × IsMeeting self turns meeting received (sending sent (writer (W.contents to.old) no_writes (W.failed to.old)) (writer (W.contents to.new) writes (W.failed to.new)))
             × Consumes (R.remaining from.old) (R.remaining from.new) received
             × Appends (W.contents to.old) (W.contents to.new) sent) }
         ensures early { IfErr result (λ ending. (ending ≡ endings.Memory) ⊎ (ending ≡ endings.Device)) }

@@ -2,7 +2,8 @@
 
 ghost use Rattle.std.specs.Prelude.{◌≡◌, ◌≤◌, ◌<◌, ◌+◌, ◌^◌, List, ℕ};
 ghost use Rattle.std.specs.Io.KnownBytes.{Appends, Consumes};
-ghost use Rattle.node_commands.specs.Turning.{Plays, Takes, broken_by, closed_by, ending_after, moment_of, turn_at};
+ghost use Rattle.peers_devices.specs.Writing.{WriteCounts, no_writes};
+ghost use Rattle.node_commands.specs.Turning.{Plays, Takes, broken_by, closed_by, ending_after, moment_of, sending, turn_at, writer};
 
 use peers_devices::{Faults, Writes};
 use peers_engine::{AlwaysOpen, EngineError, Outcome, Worker};
@@ -102,7 +103,7 @@ impl Pace {
     }
 }
 
-/// Takes a turn of the worker's session at the moment `now`.
+/// Takes a turn of the worker's session at the moment `now`, and counts its writes in `writes`.
 fn take_turn<H: Wait, R: Read + Faults, W: Write + Faults>(
     rt: &H,
     alloc: Global,
@@ -111,13 +112,14 @@ fn take_turn<H: Wait, R: Read + Faults, W: Write + Faults>(
     now: Moment,
     from: &mut R,
     to: &mut W,
+    writes: &mut Writes,
 ) -> Result<Outcome, EngineError>
-    ensures { (received sent : List ℕ) × Takes shards.now (turn_at now worker.old) result received sent (turn_at now worker.new)
+    ensures { (received sent : List ℕ)
+        × Takes shards.now (turn_at now worker.old) result received (sending sent (writer (W.contents to.old) writes.old (W.failed to.old)) (writer (W.contents to.new) writes.new (W.failed to.new))) (turn_at now worker.new)
         × Consumes (R.remaining from.old) (R.remaining from.new) received
         × Appends (W.contents to.old) (W.contents to.new) sent }
 {
-    let mut writes = Writes::none();
-    worker.turn(rt, alloc, from, to, &mut writes, &AlwaysOpen, shards, now)
+    worker.turn(rt, alloc, from, to, writes, &AlwaysOpen, shards, now)
 }
 
 /// Takes the turns of the worker's session, each at the moment that its pace gives it: all that it may take, or fewer if the session
@@ -132,14 +134,16 @@ pub(crate) fn play<H: Wait, R: Read + Faults, W: Write + Faults>(
     to: &mut W,
 ) -> Played
     requires { turns.pace.taken + turns.most < 2 ^ 32 }
-    ensures plays { (received sent : List ℕ) × Plays shards.now turns.pace 0 worker.old turns.most result.turns result.ending received sent worker.new
+    ensures plays { (received sent : List ℕ) × (writes : WriteCounts)
+        × Plays shards.now turns.pace 0 worker.old turns.most result.turns result.ending received (sending sent (writer (W.contents to.old) no_writes (W.failed to.old)) (writer (W.contents to.new) writes (W.failed to.new))) worker.new
         × Consumes (R.remaining from.old) (R.remaining from.new) received
         × Appends (W.contents to.old) (W.contents to.new) sent }
     ensures within { result.turns ≤ turns.most }
 {
+    let mut writes = Writes::none();
     for before in 0..turns.most {
         let now = turns.pace.moment(before);
-        let turned = take_turn(rt, alloc, shards, worker, now, from, to);
+        let turned = take_turn(rt, alloc, shards, worker, now, from, to, &mut writes);
         if let Some(ending) = ending_after(&worker.session, turns.pace.leaves, turned) {
             return Played {
                 turns: before + 1,

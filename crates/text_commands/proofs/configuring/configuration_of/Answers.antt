@@ -7,6 +7,14 @@ use Rattle.text_commands.specs.declared.endings.Ending.TheVariants as endings
 use Rattle.text_commands.proofs.ConfigurationEndings.{input_read, input_warned, refusal_said}
 use Rattle.text_commands.proofs.configuring.configuration_of.Goals as goal
 
+pub returns-in-Ok-checked_configuration-clause-read : goal.returns-in-Ok-checked_configuration-clause-read
+returns-in-Ok-checked_configuration-clause-read g c =
+    let input = g.R.Read.remaining c.args.input.now in (
+      c.as_slice.result.now,
+      subst (IsInput input) (sym c.as_slice.ensures.value) (input_read input _ c.in-Ok.text.items c.in-Ok.ensures.ok c.in-Ok.ensures.end),
+      c.in-Ok-checked_configuration.ensures.said,
+    )
+
 pub returns-in-Ok-checked_configuration-clause-warned : goal.returns-in-Ok-checked_configuration-clause-warned
 returns-in-Ok-checked_configuration-clause-warned g c =
     let input = g.R.Read.remaining c.args.input.now in

@@ -8,7 +8,7 @@ returns-in-Some-clause-met g c =
     let taken = c.args.self.pace.taken + c.play-played.result.turns in
     let next = c.next_session-next.ensures ∙ ap (λ (b : Bool). if b && nat_lt taken c.args.turns then c.args.self.fallback else None) c.fell_back.ensures in
     followed_by c.args.self c.play-played.new.worker c.args.turns c.saturating_sub-most.result c.play-played.result.turns taken c.play-played.result.ending (Some c.in-Some.session) _
-    (g.R.Read.remaining c.args.from.now) (g.R.Read.remaining c.play-played.new.from) (g.W.Write.contents c.args.to.now) (g.W.Write.contents c.play-played.new.to)
+    (g.R.Read.remaining c.args.from.now) (g.R.Read.remaining c.play-played.new.from) (g.W.Write.contents c.args.to.now) (g.W.Faults.failed c.args.to.now) (g.W.Write.contents c.play-played.new.to) (g.W.Faults.failed c.play-played.new.to)
     c.saturating_sub-most.ensures refl (sym c.in-Some.is ∙ next) c.play-played.ensures.plays c.play-played.ensures.within refl
 
 pub returns-in_ok-report-in-None-clause-met : goal.returns-in_ok-report-in-None-clause-met
@@ -17,6 +17,6 @@ returns-in_ok-report-in-None-clause-met g c =
     let next = c.next_session-next.ensures ∙ ap (λ (b : Bool). if b && nat_lt taken c.args.turns then c.args.self.fallback else None) c.fell_back.ensures in
     let report = c.in_ok-report-in-None.report in
     followed_by c.args.self c.play-played.new.worker c.args.turns c.saturating_sub-most.result c.play-played.result.turns taken c.play-played.result.ending None _
-    (g.R.Read.remaining c.args.from.now) (g.R.Read.remaining c.play-played.new.from) (g.W.Write.contents c.args.to.now) (g.W.Write.contents c.play-played.new.to)
+    (g.R.Read.remaining c.args.from.now) (g.R.Read.remaining c.play-played.new.from) (g.W.Write.contents c.args.to.now) (g.W.Faults.failed c.args.to.now) (g.W.Write.contents c.play-played.new.to) (g.W.Faults.failed c.play-played.new.to)
     c.saturating_sub-most.ensures refl (sym c.in-None.is ∙ next) c.play-played.ensures.plays c.play-played.ensures.within
     (told_so c.args.self c.play-played.result.turns taken c.play-played.new.worker c.play-played.result.ending report refl c.in_ok-report-in-None.ensures.text c.in_ok-report-in-None.ensures.ending)

@@ -1,0 +1,7 @@
+use Rattle.std.proofs.Common.{◌≡◌, drop, map}
+use Rattle.admin_text.specs.MeantKinds.{has_meant}
+use Rattle.admin_text.specs.Statements.{said_by}
+use Rattle.admin_text.proofs.meant_kinds.has_meant.Given as goal
+
+abbrev pub invariant-loop-line : goal.invariant-loop-line
+invariant-loop-line l = has_meant l.kind (map said_by (drop l.line-index l.lines)) ≡ has_meant l.kind (map said_by l.lines)

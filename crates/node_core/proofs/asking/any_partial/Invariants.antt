@@ -1,8 +1,0 @@
-use Rattle.std.proofs.Common.{◌≡◌, drop}
-use Rattle.std.specs.List.{list_any}
-use Rattle.node_core.specs.CatchingUp.{is_partial}
-use Rattle.node_core.proofs.asking.any_partial.Given as goal
-
--- whether one is such is whether one not yet looked at is
-abbrev pub invariant-loop-peer : goal.invariant-loop-peer
-invariant-loop-peer l = list_any (λ p. is_partial p.standing) (drop l.peer-index l.peers) ≡ list_any (λ p. is_partial p.standing) l.peers

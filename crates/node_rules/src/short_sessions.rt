@@ -1,0 +1,54 @@
+//! Sessions that a peer closes soon after they began.
+
+ghost use Rattle.std.specs.Prelude.{◌≡◌};
+ghost use Rattle.node_rules.specs.ShortSessions.{count_after, is_closed, none_short, told};
+
+use node_core::SessionEnd;
+
+/// How long a session lasts that isn't short, in milliseconds, at least.
+const LASTING: u64 = 10_000;
+
+/// At how many short sessions it is told that there are so many.
+const MANY: u64 = 3;
+
+/// How many sessions a peer has closed soon after they began since one lasted.
+#[derive(Clone, Copy, Debug)]
+pub struct ShortSessions {
+    count: u64,
+}
+
+/// Returns whether a session that ended so was closed or cut by the far side, as far as this end can tell.
+fn is_closed(end: SessionEnd) -> bool
+    ensures { result ≡ is_closed end }
+{
+    match end {
+        SessionEnd::End | SessionEnd::Device => true,
+        SessionEnd::Silent | SessionEnd::Fault | SessionEnd::Replaced | SessionEnd::Error => false,
+    }
+}
+
+impl ShortSessions {
+    /// Returns how it is with a peer with which there was no session.
+    pub fn new() -> ShortSessions
+        ensures { result ≡ none_short }
+    {
+        ShortSessions { count: 0 }
+    }
+
+    /// Notes that a session has ended so, which lasted so many milliseconds; `given_up` says whether no session may stand, since a table
+    /// gets new numbers or the node stops. Returns how many short ones there were, if it is to be told: once until one lasts.
+    pub fn end(&mut self, end: SessionEnd, given_up: bool, lasted: u64) -> Option<u64>
+        ensures told { result ≡ told end given_up lasted self.old }
+        ensures count { self.new ≡ count_after end given_up lasted self.old }
+    {
+        if lasted >= LASTING {
+            self.count = 0;
+            return None;
+        }
+        if given_up || !is_closed(end) {
+            return None;
+        }
+        self.count = self.count.saturating_add(1);
+        if self.count == MANY { Some(MANY) } else { None }
+    }
+}
