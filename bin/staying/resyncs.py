@@ -409,6 +409,85 @@ def asks_another_process(trial):
 
 
 @check
+def asks_who_is_back_soon(trial):
+    """a node that lacks rows asks a peer that it connects to again once that is back, on each session until it has answered"""
+    door, node = node_with_door(trial, KEEPS_QUIET, tables=(T1, T2))
+    far = door.far(0)
+    far.gets(REQUEST, 2)
+    teaches(far, table(11, 't1'))
+    wait(node.is_up_to_date, 7, 'the node is up to date')
+    far.close()
+    far = door.far(1, 6)
+    far.gets(REQUEST, 2)
+    far.close()
+    node.logs('resync-ended', peer='b', end='broken')
+    far = door.far(2, 6)
+    far.gets(REQUEST, 2)
+    teaches(far, table(11, 't1'), table(12, 't2'))
+    node.logs('resync-ended', peer='b', end='finished')
+    far.close()
+    far = door.far(3, 6)
+    time.sleep(0.7)
+    equal(far.count(REQUEST), 0, 'requests once all rows are taught')
+
+
+@check
+def asks_another_process_until_it_answers(trial):
+    """a node that lacks rows asks a peer that is another process on each session until that has answered, also if its session broke"""
+    node = node_of_b(trial, tables=(T1, T2))
+    far = connected(trial, node, 'b', KEEPS_QUIET)
+    far.gets(REQUEST, 2)
+    teaches(far, table(11, 't1'))
+    up_to_date(node)
+    for _ in range(2):
+        far.close()
+        far = connected(trial, node, 'b', KEEPS_QUIET, pid=2)
+        far.gets(REQUEST, 2)
+    teaches(far, table(11, 't1'))
+    node.logs('resync-ended', peer='b', end='incomplete')
+    far.close()
+    far = connected(trial, node, 'b', KEEPS_QUIET, pid=2)
+    time.sleep(0.7)
+    equal(far.count(REQUEST), 0, 'requests to a process that answered')
+
+
+@check
+def asks_nobody_once_all_were_partial(trial):
+    """a node that is up to date since all answered partially asks nobody that answered, neither one that is back soon nor another process"""
+    door, node = node_with_door(trial, Manners(answer=PARTIAL))
+    far = door.far(0)
+    far.gets(CONFIRMED, 2)
+    wait(node.is_up_to_date, 2, 'the node is up to date')
+    far.close()
+    far = door.far(1, 6)
+    time.sleep(0.7)
+    equal(far.count(REQUEST), 0, 'requests to a peer that is back soon')
+    for pid in (1, 2):
+        far.close()
+        far = connected(trial, node, pid=pid)
+        time.sleep(0.7)
+        equal(far.count(REQUEST), 0, 'requests to a process with the pid %d' % pid)
+
+
+@check
+def asks_who_comes_late(trial):
+    """a node that is up to date since all with a session answered partially asks a peer that comes only then, once"""
+    node = node_of_b(trial, peers=('b', 'c'))
+    connected(trial, node, 'b', Manners(answer=PARTIAL)).gets(CONFIRMED, 2)
+    wait(node.is_up_to_date, 7, 'the node is up to date')
+    late = connected(trial, node, 'c', KEEPS_QUIET)
+    late.gets(REQUEST, 2)
+    there = table(21, 't1')
+    late.send(definition(there) + update(there, 1, 7, (50,)) + FINISHED)
+    late.gets(CONFIRMED, 2)
+    equal(node.ask('get t1 7'), 'row 1 - 7 50', 'the row')
+    late.close()
+    late = connected(trial, node, 'c', pid=2)
+    time.sleep(0.7)
+    equal(late.count(REQUEST), 0, 'requests once all rows are taught')
+
+
+@check
 def end_of_a_session_that_differs(trial):
     """definitions that differ, rows, the end of a resync and the end of the connection in one piece are an incomplete resync all the same"""
     node = node_of_b(trial, peers=('b', 'c'), tables=(T1, T2))

@@ -1,11 +1,14 @@
 //! Sentences about addresses with ports, and about the paths of sockets.
 
 use crate::addresses::address_of;
+use crate::before::line_of;
 use crate::faults::PathFault;
+use crate::line_kinds::LineKind;
 use crate::names::fault_at;
 use crate::networks::network_of;
 use crate::shown_words::{quoted_word, shown, shown_word, strange_character, text_of, word_at};
-use node_text::{cut, is_text, number_from_one};
+use crate::statements::Statement;
+use node_text::{cut, is_text, number, number_from_one};
 use std::alloc::{AllocError, Global};
 use std::net::{Ipv4Addr, Ipv6Addr};
 
@@ -68,25 +71,13 @@ fn is_name(word: &[u8]) -> bool {
 /// Returns the sentence about `word`, which isn't an address, in a line that begins with `keyword`.
 fn fault_sentence(alloc: Global, keyword: &[u8], word: &[u8]) -> Result<String, AllocError> {
     match address_fault(word) {
-        AddressFault::LinkLocal => format!(in alloc;
-            "link-local addresses are not supported; use another address of the host"
-        ),
+        AddressFault::LinkLocal => link_local_sentence(alloc, whose(keyword)),
         AddressFault::Zone => format!(in alloc;
             "leave out the zone, which is % and the name after it"
         ),
         AddressFault::Path => path_instead_sentence(alloc, keyword, word),
         AddressFault::Network => network_instead_sentence(alloc, keyword, word),
-        AddressFault::PortAlone(port) => {
-            let all = all_hint(keyword);
-            example_sentence(
-                alloc,
-                "put an IP address before the port",
-                keyword,
-                b"",
-                port,
-                all,
-            )
-        }
+        AddressFault::PortAlone(port) => port_alone_sentence(alloc, keyword, word, port),
         AddressFault::NoPort(host) => {
             let said = if takes_loopback(keyword) {
                 "write a loopback address and a port"
@@ -97,20 +88,92 @@ fn fault_sentence(alloc: Global, keyword: &[u8], word: &[u8]) -> Result<String, 
         }
         AddressFault::Port(host, port) => port_sentence(alloc, keyword, host, port),
         AddressFault::NoBrackets => brackets_sentence(alloc, keyword, word),
-        AddressFault::Brackets => {
-            let word = quoted_word(word);
-            format!(in alloc;
-                "{word} is not a valid address; write A.B.C.D:PORT without brackets, or [IPv6]:PORT"
-            )
-        }
-        AddressFault::Numbers(port) => {
-            let said = "an IPv4 address is four numbers from 0 to 255, without leading zeros";
-            example_sentence(alloc, said, keyword, b"", port, "")
-        }
+        AddressFault::Brackets => not_ipv6_sentence(alloc, word),
+        AddressFault::Numbers(port) => numbers_sentence(alloc, keyword, host_of(word), port),
         AddressFault::Host(host, port) => {
             let said = "host names aren't looked up; write an IP address and a port";
             example_sentence(alloc, said, keyword, loopback_of(host), port, "")
         }
+    }
+}
+
+/// Returns the sentence about `word`, which is this port alone, or after `*`.
+fn port_alone_sentence(
+    alloc: Global,
+    keyword: &[u8],
+    word: &[u8],
+    port: &[u8],
+) -> Result<String, AllocError> {
+    let all = all_hint(keyword);
+    if word.starts_with(b"*") && is_port(port) && !all.is_empty() {
+        let (word, port) = (shown_word(word), shown_word(port));
+        format!(in alloc;
+            "for HAProxy's \"{word}\" write 0.0.0.0:{port} (IPv4 only) or [::]:{port} (IPv4 and IPv6)"
+        )
+    } else {
+        let said = "put an IP address before the port";
+        example_sentence(alloc, said, keyword, b"", port, all)
+    }
+}
+
+/// Returns the sentence about `host`, which has numbers and dots, but isn't an IPv4 address, before a colon and `port`.
+fn numbers_sentence(
+    alloc: Global,
+    keyword: &[u8],
+    host: &[u8],
+    port: &[u8],
+) -> Result<String, AllocError> {
+    match too_high_in(host) {
+        Some(part) => {
+            let part = shown_word(part);
+            let said = format!(in alloc;
+                "{part} is more than 255; write an IP address and a port"
+            )?;
+            example_sentence(alloc, said.as_str(), keyword, b"", port, "")
+        }
+        None => {
+            let said = "an IPv4 address is four numbers from 0 to 255, without leading zeros";
+            example_sentence(alloc, said, keyword, b"", port, "")
+        }
+    }
+}
+
+/// Returns the first of four numbers with dots between that is above 255.
+pub(crate) fn too_high_in(host: &[u8]) -> Option<&[u8]> {
+    let (first, behind) = cut(host, b'.')?;
+    let (second, behind) = cut(behind, b'.')?;
+    let (third, fourth) = cut(behind, b'.')?;
+    if is_too_high(first) {
+        Some(first)
+    } else if is_too_high(second) {
+        Some(second)
+    } else if is_too_high(third) {
+        Some(third)
+    } else if is_too_high(fourth) {
+        Some(fourth)
+    } else {
+        None
+    }
+}
+
+/// Returns whether the word is a number above 255.
+fn is_too_high(word: &[u8]) -> bool {
+    match number(word, u64::MAX) {
+        Some(number) => number > 255,
+        None => false,
+    }
+}
+
+/// Returns the sentence about a link-local address of the host or of the peer.
+pub(crate) fn link_local_sentence(alloc: Global, whose: &str) -> Result<String, AllocError> {
+    format!(in alloc; "link-local addresses aren't supported; use another address of the {whose}")
+}
+
+/// Returns whose address a line has that begins with `keyword`.
+fn whose(keyword: &[u8]) -> &'static str {
+    match keyword {
+        [b'p', ..] => "peer",
+        _ => "host",
     }
 }
 
@@ -226,11 +289,15 @@ fn address_fault(word: &[u8]) -> AddressFault<'_> {
     }
 }
 
-/// Returns whether the word begins with `[` and an address of fe80::/10.
-fn begins_link_local(word: &[u8]) -> bool {
+/// Returns whether the word begins with an address of fe80::/10, maybe behind `[`.
+pub(crate) fn begins_link_local(word: &[u8]) -> bool {
+    let address = match word {
+        [b'[', inner @ ..] => inner,
+        _ => word,
+    };
     matches!(
-        word,
-        [b'[', b'f' | b'F', b'e' | b'E', b'8' | b'9' | b'a' | b'b' | b'A' | b'B', b'0'..=b'9' | b'a'..=b'f' | b'A'..=b'F', b':', ..]
+        address,
+        [b'f' | b'F', b'e' | b'E', b'8' | b'9' | b'a' | b'b' | b'A' | b'B', b'0'..=b'9' | b'a'..=b'f' | b'A'..=b'F', b':', ..]
     )
 }
 
@@ -353,7 +420,7 @@ fn path_hint(keyword: &[u8]) -> &'static str {
 }
 
 /// Returns `word` from its first byte that isn't `0`.
-fn without_zeros(word: &[u8]) -> &[u8] {
+pub(crate) fn without_zeros(word: &[u8]) -> &[u8] {
     match word.iter().position(|byte| *byte != b'0') {
         Some(start) => &word[start..],
         None => &[],
@@ -374,17 +441,38 @@ fn brackets_sentence(alloc: Global, keyword: &[u8], word: &[u8]) -> Result<Strin
     let (host, whole) = (shown_word(host_of(word)), shown_word(word));
     let host = format!(in alloc; "[{host}]")?;
     let whole = format!(in alloc; "[{whole}]")?;
-    let address = if may_have(alloc, keyword, host.as_str(), usual_port)? {
-        address_like(alloc, keyword, host.as_str(), text_of(port_of(word)))?
+    let has_host = may_have(alloc, keyword, host.as_str(), usual_port)?;
+    let (address, port) = if has_host && is_port(port_of(word)) {
+        let address = address_like(alloc, keyword, host.as_str(), text_of(port_of(word)))?;
+        (address, "")
     } else if may_have(alloc, keyword, whole.as_str(), usual_port)? {
-        address_like(alloc, keyword, whole.as_str(), "")?
+        let address = address_like(alloc, keyword, whole.as_str(), "")?;
+        (address, ", followed by a port")
     } else if takes_loopback(keyword) {
-        format!(in alloc; "[::1]:9101")?
+        (format!(in alloc; "[::1]:9101")?, "")
     } else {
-        format!(in alloc; "[2001:db8::5]:10000")?
+        (format!(in alloc; "[2001:db8::5]:10000")?, "")
     };
     let address = address.as_str();
-    format!(in alloc; "put the IPv6 address in brackets, as in {address}")
+    format!(in alloc; "put the IPv6 address in brackets{port}, as in {address}")
+}
+
+/// Returns the sentence about a word that begins with `[`, behind which no IPv6 address in brackets comes.
+fn not_ipv6_sentence(alloc: Global, word: &[u8]) -> Result<String, AllocError> {
+    if let Some(([b'[', inner @ ..], behind)) = cut(word, b']') {
+        let (inner, behind) = (text_of(inner), text_of(behind));
+        let address = format!(in alloc; "{inner}{behind}")?;
+        let address = address.as_str();
+        if address_of(address.as_bytes()).is_some() {
+            return format!(in alloc;
+                "leave out the brackets, which only an IPv6 address has: write {address}"
+            );
+        }
+    }
+    let word = quoted_word(word);
+    format!(in alloc;
+        "{word} is not a valid address; write A.B.C.D:PORT without brackets, or [IPv6]:PORT"
+    )
 }
 
 /// Returns the sentence about a path in the place of an address.
@@ -396,7 +484,7 @@ fn path_instead_sentence(alloc: Global, keyword: &[u8], word: &[u8]) -> Result<S
         [b'm', ..] => {
             let said = "write an IP address and a port";
             let socket = format!(in alloc;
-                ", or \"admin {unix}{path}\", which serves the metrics too"
+                ", or \"admin {unix}{path}\", which serves the metrics too, and takes requests"
             )?;
             example_sentence(alloc, said, keyword, b"", b"", socket.as_str())
         }
@@ -427,11 +515,21 @@ fn network_instead_sentence(
 }
 
 /// Returns the sentence about an address for requests that isn't a loopback address.
-pub(crate) fn local_sentence(alloc: Global, words: &[&[u8]]) -> Result<String, AllocError> {
+pub(crate) fn local_sentence(
+    alloc: Global,
+    lines: &[Statement<'_>],
+    words: &[&[u8]],
+) -> Result<String, AllocError> {
     let word = shown(words, 1);
     let port = shown_word(port_of(word_at(words, 1)));
+    let metrics = if line_of(lines, LineKind::Metrics).is_some() {
+        String::new(alloc)
+    } else {
+        format!(in alloc; "; if you want metrics only, write \"metrics {word}\" instead")?
+    };
+    let metrics = metrics.as_str();
     format!(in alloc;
-        "requests are taken on loopback or a Unix socket only; write 127.0.0.1:{port}, [::1]:{port} or unix:PATH, and for metrics alone \"metrics {word}\""
+        "requests are taken on loopback or a Unix socket only; write \"admin 127.0.0.1:{port}\", \"admin [::1]:{port}\" or \"admin unix:/run/digbaro/admin.sock\"{metrics}"
     )
 }
 

@@ -1,14 +1,19 @@
 //! Sentences about the first words of lines, and about which words a line has.
 
 use crate::address_sentences::{joined_address, port_of};
+use crate::addresses::address_of;
+use crate::before::{line_of, line_with};
+use crate::haproxy_sentences::haproxy_sentence;
 use crate::line_kinds::LineKind;
 use crate::log_sentences::log_sentence;
 use crate::meant_kinds::{before_mark, kind_alike, mistaken_kind};
+use crate::named::keys_named;
 use crate::networks::network_of;
-use crate::shown_words::{lacks_id, quoted, shown, shown_word, word_at};
-use crate::statements::BYTE_ORDER_MARK;
+use crate::shown_words::{is_of_haproxy, lacks_id, quoted, shown, shown_word, word_at};
+use crate::statements::{BYTE_ORDER_MARK, Statement};
 use crate::table_sentences::id_sentence;
 use std::alloc::{AllocError, Global};
+use table_types::KeyKind;
 
 /// The first words of lines that only scenes and scripts have.
 const OF_SCENES: [&str; 10] = [
@@ -16,11 +21,19 @@ const OF_SCENES: [&str; 10] = [
 ];
 
 /// Returns the sentence about a line that begins with no keyword, or with a byte order mark.
-pub(crate) fn unknown_sentence(alloc: Global, words: &[&[u8]]) -> Result<String, AllocError> {
+pub(crate) fn unknown_sentence(
+    alloc: Global,
+    lines: &[Statement<'_>],
+    words: &[&[u8]],
+) -> Result<String, AllocError> {
     let first = word_at(words, 0);
     let word = quoted(words, 0);
-    if first.starts_with(BYTE_ORDER_MARK) {
-        format!(in alloc; "the line begins with a UTF-8 byte order mark, EF BB BF; delete it")
+    if first == BYTE_ORDER_MARK {
+        format!(in alloc;
+            "the file begins with a byte order mark (bytes EF BB BF); save it as UTF-8 without one"
+        )
+    } else if first.starts_with(BYTE_ORDER_MARK) {
+        format!(in alloc; "the line begins with a byte order mark; delete it, the bytes EF BB BF")
     } else if let Some(kind) = kind_alike(first) {
         let keyword = kind.word();
         format!(in alloc; "unknown keyword {word}: keywords are in lower case, so write {keyword}")
@@ -28,18 +41,42 @@ pub(crate) fn unknown_sentence(alloc: Global, words: &[&[u8]]) -> Result<String,
         let keyword = kind.word();
         format!(in alloc; "unknown keyword {word}: write {keyword} without the {mark}")
     } else if let Some(kind) = mistaken_kind(first) {
-        let keyword = kind.word();
-        format!(in alloc; "unknown keyword {word}: did you mean {keyword}?")
+        mistaken_sentence(alloc, lines, words, kind)
+    } else if first == b"bind".as_slice() {
+        bind_sentence(alloc, lines, words)
     } else if is_of_scenes(first) {
         format!(in alloc;
-            "unknown keyword {word}: it belongs in a scene or a script, not in a configuration; delete this line"
+            "unknown keyword {word}: a configuration has no such line; delete this one"
         )
     } else {
-        let hint = hint_about(first);
         format!(in alloc;
-            "unknown keyword {word}; a line begins with node, listen, admin, metrics, section, peer, table, size, nopurge or log{hint}"
+            "unknown keyword {word}; a line begins with node, listen, admin, metrics, section, peer, table, size, nopurge or log"
         )
     }
+}
+
+/// Returns the sentence about a line that begins with a common mistake for the keyword of `kind`.
+fn mistaken_sentence(
+    alloc: Global,
+    lines: &[Statement<'_>],
+    words: &[&[u8]],
+    kind: LineKind,
+) -> Result<String, AllocError> {
+    let (word, keyword) = (quoted(words, 0), kind.word());
+    if matches!(kind, LineKind::Table) && is_of_haproxy(words) {
+        let said = haproxy_sentence(alloc, lines, words)?;
+        let said = said.as_str();
+        format!(in alloc; "unknown keyword {word}: {said}")
+    } else if is_word_of_haproxy(word_at(words, 0)) {
+        format!(in alloc; "unknown keyword {word}: write {keyword} for HAProxy's {word}")
+    } else {
+        format!(in alloc; "unknown keyword {word}: did you mean {keyword}?")
+    }
+}
+
+/// Returns whether HAProxy's lines begin with `word`, which is a mistake here.
+fn is_word_of_haproxy(word: &[u8]) -> bool {
+    matches!(word, b"localpeer" | b"peers" | b"server" | b"stick-table")
 }
 
 /// Returns whether only lines of scenes and scripts begin with `word`.
@@ -52,24 +89,35 @@ fn is_of_scenes(word: &[u8]) -> bool {
     false
 }
 
-/// Returns what to write in the place of HAProxy's `bind`, if `word` is that.
-fn hint_about(word: &[u8]) -> &'static str {
-    if word == b"bind".as_slice() {
-        "; HAProxy's bind is \"listen ADDRESS\" here, and only one such line is allowed"
-    } else {
-        ""
+/// Returns the sentence about HAProxy's `bind`.
+fn bind_sentence(
+    alloc: Global,
+    lines: &[Statement<'_>],
+    words: &[&[u8]],
+) -> Result<String, AllocError> {
+    let address = shown(words, 1);
+    match line_of(lines, LineKind::Listen) {
+        Some(line) => format!(in alloc;
+            "unknown keyword \"bind\": for HAProxy's \"bind\" write \"listen\"; line {line} has it already, and a node listens at one address only: delete this line"
+        ),
+        None if address_of(word_at(words, 1)).is_some() => format!(in alloc;
+            "unknown keyword \"bind\": write \"listen {address}\""
+        ),
+        None => format!(in alloc;
+            "unknown keyword \"bind\": write \"listen ADDRESS\", as in \"listen 10.0.0.5:10000\""
+        ),
     }
 }
 
 /// Returns the sentence about a line of `kind` with too few words or too many.
 pub(crate) fn form_sentence(
     alloc: Global,
+    lines: &[Statement<'_>],
     words: &[&[u8]],
     kind: LineKind,
 ) -> Result<String, AllocError> {
     if word_at(words, 1) == b"=".as_slice() {
-        let form = kind.form();
-        return format!(in alloc; "leave out the =: write {form}");
+        return equals_sentence(alloc, words, kind);
     }
     match kind {
         LineKind::Listen | LineKind::Admin | LineKind::Metrics => {
@@ -82,10 +130,24 @@ pub(crate) fn form_sentence(
             )
         }
         LineKind::Peer => peer_form_sentence(alloc, words),
-        LineKind::Table => table_form_sentence(alloc, words),
+        LineKind::Table => table_form_sentence(alloc, lines, words),
         LineKind::Log | LineKind::Journal => log_sentence(alloc, words),
         LineKind::Node | LineKind::Socket | LineKind::Section => usual_sentence(alloc, words, kind),
         LineKind::Size | LineKind::Nopurge => usual_sentence(alloc, words, kind),
+    }
+}
+
+/// Returns the sentence about a line of `kind` whose second word is `=`.
+fn equals_sentence(alloc: Global, words: &[&[u8]], kind: LineKind) -> Result<String, AllocError> {
+    match words {
+        [keyword, _, value] => {
+            let (keyword, value) = (shown_word(keyword), shown_word(value));
+            format!(in alloc; "leave out the =: write \"{keyword} {value}\"")
+        }
+        _ => {
+            let form = kind.form();
+            format!(in alloc; "leave out the =: write {form}")
+        }
     }
 }
 
@@ -114,8 +176,10 @@ fn most_words(kind: LineKind) -> usize {
 /// Returns what is said after the form of a line of `kind` that is too long, or too short.
 fn form_hint(kind: LineKind, is_long: bool) -> &'static str {
     match kind {
-        LineKind::Node | LineKind::Section if is_long =>
-            "; a name has no spaces, not even in quotes",
+        LineKind::Node if is_long =>
+            ", with the name by which peers know this node, which has no spaces, not even in quotes",
+        LineKind::Section if is_long =>
+            ", with one name without spaces, exactly that of HAProxy's peers section",
         LineKind::Node => ", with the name by which peers know this node, as in \"node n1\"",
         LineKind::Section => ", with the name of HAProxy's peers section",
         LineKind::Listen => ", as in \"listen 10.0.0.5:10000\"",
@@ -165,7 +229,7 @@ fn peer_form_sentence(alloc: Global, words: &[&[u8]]) -> Result<String, AllocErr
         )
     } else if ends_with_from(words) {
         format!(in alloc;
-            "\"from\" needs a network after it; to accept the peer from any address, leave \"from\" out"
+            "write a network after \"from\", as in \"from 10.0.0.0/24\", or leave \"from\" out to accept the peer from any address"
         )
     } else if network_of(word).is_some() {
         let network = shown(words, 3);
@@ -184,25 +248,57 @@ fn ends_with_from(words: &[&[u8]]) -> bool {
 }
 
 /// Returns the sentence about a line of a table with too few words.
-fn table_form_sentence(alloc: Global, words: &[&[u8]]) -> Result<String, AllocError> {
-    if lacks_id(words) {
-        return id_sentence(alloc, words);
+fn table_form_sentence(
+    alloc: Global,
+    lines: &[Statement<'_>],
+    words: &[&[u8]],
+) -> Result<String, AllocError> {
+    if lacks_id(words) || is_of_haproxy(words) {
+        return id_sentence(alloc, lines, words);
     }
-    let form = LineKind::Table.form();
     let missing = match words {
-        [_, _, _, _, _] => "EXPIRE is missing; ",
-        [_, _, _, _] => "LENGTH and EXPIRE are missing; ",
+        [_, _, _, word, _] if keys_named(word).is_some() => "EXPIRE is missing; ",
+        [_, _, _, word] if keys_named(word).is_some() => "LENGTH and EXPIRE are missing; ",
         [_, _, _] => "KIND, LENGTH and EXPIRE are missing; ",
         _ => "",
     };
+    let table = table_like(alloc, words)?;
+    let table = table.as_str();
     format!(in alloc;
-        "{missing}write {form}; EXPIRE and the period after a rate's colon are in ms, and TYPES are HAProxy's data types"
+        "{missing}write \"table ID NAME KIND LENGTH EXPIRE [TYPES..]\", as in \"{table}\"; EXPIRE is in ms, or 0 for never, and TYPES are HAProxy's data types, if the table stores any"
     )
+}
+
+/// Returns the line of a table that begins with these words, which are too few.
+fn table_like(alloc: Global, words: &[&[u8]]) -> Result<String, AllocError> {
+    let (id, name) = (shown(words, 1), shown(words, 2));
+    let (keys, length) = (shown(words, 3), shown(words, 4));
+    match words {
+        [_, _, _, word, _] if keys_named(word).is_some() => format!(in alloc;
+            "table {id} {name} {keys} {length} 600000 gpc0"
+        ),
+        [_, _, _, word] if keys_named(word).is_some() => {
+            let length = usual_length(word);
+            format!(in alloc; "table {id} {name} {keys} {length} 600000 gpc0")
+        }
+        [_, _, _] => format!(in alloc; "table {id} {name} integer 4 600000 gpc0"),
+        _ => format!(in alloc; "table 1 /t1 integer 4 600000 gpc0"),
+    }
+}
+
+/// Returns a length that keys of the kind with this name have.
+fn usual_length(keys: &[u8]) -> &'static str {
+    match keys_named(keys) {
+        Some(KeyKind::Ip6) => "16",
+        Some(KeyKind::String | KeyKind::Binary) => "33",
+        Some(KeyKind::Integer | KeyKind::Ip4) | None => "4",
+    }
 }
 
 /// Returns the sentence about a line of which there may be one, as this one is.
 pub(crate) fn repeated_sentence(
     alloc: Global,
+    lines: &[Statement<'_>],
     words: &[&[u8]],
     line: usize,
 ) -> Result<String, AllocError> {
@@ -217,17 +313,30 @@ pub(crate) fn repeated_sentence(
         Some(LineKind::Log) => "the level",
         _ => "this",
     };
-    let all = all_sentence(alloc, words)?;
+    let all = all_sentence(alloc, lines, words)?;
     let all = all.as_str();
     format!(in alloc; "{what} is already given on line {line}; keep one of the two lines{all}")
 }
 
 /// Returns how to listen at all addresses of the host, if the line with these words may.
-fn all_sentence(alloc: Global, words: &[&[u8]]) -> Result<String, AllocError> {
+fn all_sentence(
+    alloc: Global,
+    lines: &[Statement<'_>],
+    words: &[&[u8]],
+) -> Result<String, AllocError> {
     match LineKind::of(words) {
-        Some(LineKind::Listen | LineKind::Metrics) => {
+        Some(kind) if matches!(kind, LineKind::Listen | LineKind::Metrics) => {
             let port = shown_word(port_of(word_at(words, 1)));
-            format!(in alloc; ", or write [::]:{port} for all addresses of the host")
+            let all = format!(in alloc; "[::]:{port}")?;
+            let all = all.as_str();
+            let keyword = kind.word();
+            match line_with(lines, kind, 1, all.as_bytes()) {
+                Some(line) => format!(in alloc; "; line {line} is for all addresses of the host"),
+                None if address_of(all.as_bytes()).is_some() => format!(in alloc;
+                    ", or write \"{keyword} {all}\" in their place, for all addresses of the host"
+                ),
+                None => Ok(String::new(alloc)),
+            }
         }
         _ => Ok(String::new(alloc)),
     }

@@ -8,6 +8,7 @@ mod before;
 mod configurations;
 mod error;
 mod faults;
+mod haproxy_sentences;
 mod keyword_sentences;
 mod line_kinds;
 mod line_refusals;

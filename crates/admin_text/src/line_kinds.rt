@@ -76,7 +76,7 @@ impl LineKind {
             LineKind::Section => "\"section NAME\"",
             LineKind::Peer => "\"peer NAME [ADDRESS] [from NETWORK..]\"",
             LineKind::Table =>
-                "\"table ID NAME KIND LENGTH EXPIRE TYPES..\", as in \"table 1 /t1 integer 4 600000 gpc0 http_req_rate:10000\"",
+                "\"table ID NAME KIND LENGTH EXPIRE [TYPES..]\", as in \"table 1 /t1 integer 4 600000 gpc0 http_req_rate:10000\"",
             LineKind::Size => "\"size ID ROWS\"",
             LineKind::Nopurge => "\"nopurge ID\"",
             LineKind::Log | LineKind::Journal =>

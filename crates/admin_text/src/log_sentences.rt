@@ -62,6 +62,12 @@ pub(crate) fn log_sentence(alloc: Global, words: &[&[u8]]) -> Result<String, All
             let (first, second) = (shown(words, 1), shown(words, 2));
             format!(in alloc; "write two lines, \"log {first}\" and \"log {second}\"")
         }
+        [_, first, second] if is_level(first) && is_level(second) => {
+            let (first, second) = (shown(words, 1), shown(words, 2));
+            format!(in alloc;
+                "write one level only: \"log {first}\" or \"log {second}\"; of error, warn, info and debug, each logs all that those before it log"
+            )
+        }
         [_, first, ..] if is_level(first) || is_journal(first) => {
             let (first, surplus) = (shown(words, 1), quoted(words, 2));
             format!(in alloc; "{surplus} is not allowed here; write \"log {first}\"")

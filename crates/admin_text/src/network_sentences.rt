@@ -1,6 +1,8 @@
 //! Sentences about networks from which peers come.
 
-use crate::address_sentences::is_dotted;
+use crate::address_sentences::{
+    begins_link_local, is_dotted, link_local_sentence, too_high_in, without_zeros,
+};
 use crate::addresses::address_of;
 use crate::networks::network_of;
 use crate::shown_words::{
@@ -26,7 +28,7 @@ pub(crate) fn network_sentence(alloc: Global, word: &[u8]) -> Result<String, All
     }
     if let Some(address) = address_of(word) {
         let ip = address.ip();
-        return format!(in alloc; "leave out the port: write {ip}");
+        return format!(in alloc; "after \"from\", write the address without a port: \"from {ip}\"");
     }
     match cut(word, b'/') {
         Some((host, count)) => match IpAddr::parse_ascii(host) {
@@ -47,7 +49,24 @@ fn count_sentence(alloc: Global, ip: IpAddr, count: &[u8]) -> Result<String, All
         Some(bits) => format!(in alloc; "write the mask as a prefix length: {ip}/{bits}"),
         None => {
             let (word, zeros) = (quoted_word(count), zeros_hint(count));
-            format!(in alloc; "an {kind} prefix length is 0 to {most}{zeros}, not {word}")
+            let hint = bits_hint(alloc, ip, count)?;
+            let hint = hint.as_str();
+            format!(in alloc; "an {kind} prefix length is 0 to {most}{zeros}, not {word}{hint}")
+        }
+    }
+}
+
+/// Returns what to write in the place of a prefix length with leading zeros, or an example.
+fn bits_hint(alloc: Global, ip: IpAddr, count: &[u8]) -> Result<String, AllocError> {
+    let bits = text_of(without_zeros(count));
+    let network = format!(in alloc; "{ip}/{bits}")?;
+    let network = network.as_str();
+    if network_of(network.as_bytes()).is_some() {
+        format!(in alloc; "; write {network}")
+    } else {
+        match ip {
+            IpAddr::V4(_) => format!(in alloc; "; write it as in 10.0.0.0/24"),
+            IpAddr::V6(_) => format!(in alloc; "; write it as in 2001:db8::/64"),
         }
     }
 }
@@ -73,11 +92,15 @@ fn host_sentence(alloc: Global, host: &[u8], count: Option<&[u8]>) -> Result<Str
             };
             format!(in alloc; "leave out the brackets: write {ip}{slash}{bits}")
         }
-        _ if host.contains(&b'%') => format!(in alloc; "leave out the zone, from % on"),
+        _ if host.contains(&b'%') && begins_link_local(host) => link_local_sentence(alloc, "peer"),
+        _ if host.contains(&b'%') => zone_sentence(alloc, host, count),
         _ if is_dotted(host) => numbers_sentence(alloc, host, count),
-        _ if is_everything(host) => format!(in alloc;
-            "to accept the peer from any address, leave \"from\" out"
-        ),
+        _ if is_everything(host) => {
+            let word = shown_word(host);
+            format!(in alloc;
+                "leave out \"from {word}\": without \"from\" the peer may connect from any address"
+            )
+        }
         _ if host.contains(&b':') => {
             let word = quoted_word(host);
             format!(in alloc;
@@ -87,6 +110,25 @@ fn host_sentence(alloc: Global, host: &[u8], count: Option<&[u8]>) -> Result<Str
         _ => format!(in alloc;
             "host names aren't looked up; write an address or a prefix, as in 10.0.0.1 or 10.0.0.0/24"
         ),
+    }
+}
+
+/// Returns the sentence about an address with a zone, before the `/` of a network and `count`, or alone.
+fn zone_sentence(alloc: Global, host: &[u8], count: Option<&[u8]>) -> Result<String, AllocError> {
+    let address = match cut(host, b'%') {
+        Some((address, _)) => text_of(address),
+        None => text_of(host),
+    };
+    let (slash, bits) = match count {
+        Some(count) => ("/", text_of(count)),
+        None => ("", ""),
+    };
+    let network = format!(in alloc; "{address}{slash}{bits}")?;
+    let network = network.as_str();
+    if network_of(network.as_bytes()).is_some() {
+        format!(in alloc; "leave out the zone: write {network}")
+    } else {
+        format!(in alloc; "leave out the zone, which is % and the name after it")
     }
 }
 
@@ -115,11 +157,24 @@ fn numbers_sentence(
     let network = format!(in alloc; "{host}{zeros}/{bits}")?;
     let network = network.as_str();
     if network_of(network.as_bytes()).is_some() {
-        format!(in alloc; "an IPv4 address has four numbers: write {network}")
+        match count {
+            Some(_) => format!(in alloc; "an IPv4 address has four numbers: write {network}"),
+            None => format!(in alloc;
+                "\"{host}\" is incomplete; write all four numbers of an address, or {network} for a network"
+            ),
+        }
     } else {
-        format!(in alloc;
-            "an IPv4 address is four numbers from 0 to 255, without leading zeros, as in 10.0.0.0/24"
-        )
+        match too_high_in(host.as_bytes()) {
+            Some(part) => {
+                let part = shown_word(part);
+                format!(in alloc;
+                    "{part} is more than 255; write an address or a network, as in 10.0.0.1 or 10.0.0.0/24"
+                )
+            }
+            None => format!(in alloc;
+                "an IPv4 address is four numbers from 0 to 255, without leading zeros, as in 10.0.0.0/24"
+            ),
+        }
     }
 }
 

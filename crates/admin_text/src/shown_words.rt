@@ -57,6 +57,11 @@ pub(crate) fn quoted_word(word: &[u8]) -> Printed<'_> {
     }
 }
 
+/// Returns whether all of the word is printed.
+pub(crate) fn is_shown_whole(word: &[u8]) -> bool {
+    is_text(word) && word.len() <= MOST_SHOWN
+}
+
 /// Returns the word at `place` as it is printed.
 pub(crate) fn shown<'a>(words: &[&'a [u8]], place: usize) -> Printed<'a> {
     shown_word(word_at(words, place))
@@ -167,7 +172,7 @@ pub(crate) fn lacks_id(words: &[&[u8]]) -> bool {
 
 /// Returns whether these are the words of a table as HAProxy has them.
 pub(crate) fn is_of_haproxy(words: &[&[u8]]) -> bool {
-    word_at(words, 2) == b"type".as_slice()
+    word_at(words, 1) == b"type".as_slice() || word_at(words, 2) == b"type".as_slice()
 }
 
 /// Returns whether the first byte of `word` is a digit.

@@ -1,16 +1,13 @@
 //! Sentences about the data types of tables.
 
 use crate::faults::TypeFault;
+use crate::haproxy_sentences::{period_in, time_in, types_like, unshared_in, unshared_sentence};
 use crate::named::type_named;
-use crate::shown_words::{quoted_word, shown_word, without_commas};
+use crate::shown_words::{quoted_word, shown_word, without_commas, word_at};
 use crate::type_words::{name_part, period_part};
-use crate::written_units::milliseconds;
-use node_text::{cut, number};
+use node_text::cut;
 use std::alloc::{AllocError, Global};
 use table_types::DataType;
-
-/// The most milliseconds of a period.
-const LONGEST_PERIOD: u64 = (1 << 32) - 1;
 
 /// Words that are no data types, and those that are meant.
 const MEANT: [(&str, &str); 10] = [
@@ -26,12 +23,14 @@ const MEANT: [(&str, &str); 10] = [
     ("bytes_out", "bytes_out_cnt"),
 ];
 
-/// Returns the sentence about a word that isn't a data type that the table may store.
+/// Returns the sentence about the word at `place`, which isn't a data type that the table may store.
 pub(crate) fn type_sentence(
     alloc: Global,
-    word: &[u8],
+    words: &[&[u8]],
+    place: usize,
     fault: TypeFault,
 ) -> Result<String, AllocError> {
+    let word = word_at(words, place);
     match fault {
         TypeFault::Unknown => unknown_sentence(alloc, word),
         TypeFault::NoPeriod => no_period_sentence(alloc, word),
@@ -45,16 +44,11 @@ pub(crate) fn type_sentence(
 
 /// Returns the sentence about a word that begins with the name of no data type.
 fn unknown_sentence(alloc: Global, word: &[u8]) -> Result<String, AllocError> {
-    if is_beyond_sharing(word) {
-        let word = quoted_word(word);
-        return format!(in alloc;
-            "{word} is a data type from 20 up, which can't be shared; leave it out here, and give it a table of its own at HAProxy"
-        );
+    if let Some((name, instead)) = unshared_in(word) {
+        return unshared_sentence(alloc, name, instead);
     }
     if word.contains(&b',') {
-        let types = without_commas(alloc, word)?;
-        let types = types.as_str();
-        return format!(in alloc; "separate data types with spaces, not commas: \"{types}\"");
+        return commas_sentence(alloc, word);
     }
     if let Some((name, period)) = cut(word, b'(') {
         return parentheses_sentence(alloc, word, name, period);
@@ -65,17 +59,25 @@ fn unknown_sentence(alloc: Global, word: &[u8]) -> Result<String, AllocError> {
         None => {
             let names = type_names(alloc)?;
             let names = names.as_str();
-            format!(in alloc; "{name} is not a data type; use {names}")
+            format!(in alloc; "{name} is not a data type; use any of {names}")
         }
     }
 }
 
-/// Returns whether `word` is HAProxy's for an array of counters, of tags or of rates.
-fn is_beyond_sharing(word: &[u8]) -> bool {
-    match cut(word, b'(') {
-        Some((name, _)) => matches!(name, b"gpc" | b"gpt" | b"gpc_rate"),
-        None => false,
+/// Returns the sentence about data types with commas between.
+fn commas_sentence(alloc: Global, word: &[u8]) -> Result<String, AllocError> {
+    if let Some(types) = types_like(alloc, word)? {
+        let types = types.as_str();
+        return format!(in alloc; "separate data types with spaces, not commas: \"{types}\"");
     }
+    if word.contains(&b'(') {
+        return format!(in alloc;
+            "separate data types with spaces, not commas, and write a rate with its period in ms after a colon, as in \"gpc0 http_req_rate:10000\""
+        );
+    }
+    let types = without_commas(alloc, word)?;
+    let types = types.as_str();
+    format!(in alloc; "separate data types with spaces, not commas: \"{types}\"")
 }
 
 /// Returns the sentence about a word with its period in parentheses, from what comes before and after the first one.
@@ -93,25 +95,13 @@ fn parentheses_sentence(
                 "{word} is not a data type; write {name}:{number}, with the period in ms after a colon"
             )
         }
+        (Some(other), _) if !other.is_rate() => {
+            let name = other.name();
+            format!(in alloc; "{word} is not a data type; write {name}, without parentheses")
+        }
         _ => format!(in alloc;
             "{word} is not a data type; write a rate with its period in ms after a colon, as in http_req_rate:10000"
         ),
-    }
-}
-
-/// Returns how many milliseconds HAProxy takes a time before `)` for.
-fn time_in(period: &[u8]) -> Option<u64> {
-    match period {
-        [time @ .., b')'] => period_in(time),
-        _ => None,
-    }
-}
-
-/// Returns how many milliseconds HAProxy takes `time` for, if a rate may have them for a period.
-fn period_in(time: &[u8]) -> Option<u64> {
-    match milliseconds(time) {
-        Some(number) if number > 0 && number <= LONGEST_PERIOD => Some(number),
-        _ => None,
     }
 }
 
@@ -133,10 +123,10 @@ fn no_period_sentence(alloc: Global, word: &[u8]) -> Result<String, AllocError> 
     match period_in(time) {
         Some(number) => format!(in alloc; "write the period in ms: {name}:{number}"),
         None if time.is_empty() => format!(in alloc;
-            "add the period of {name} in ms, 1 to 4294967295, after a colon, as in {name}:10000"
+            "add the period of {name} in ms, 1 to 2147483647, after a colon, as in {name}:10000"
         ),
         None => format!(in alloc;
-            "write the period as a number of ms, 1 to 4294967295, not {period}, as in {name}:10000"
+            "the period is 1 to 2147483647 ms, not {period}; write that of HAProxy's \"store\", as in {name}:10000"
         ),
     }
 }
@@ -148,7 +138,7 @@ fn period_sentence(alloc: Global, word: &[u8]) -> Result<String, AllocError> {
         Some(rate) => {
             let (rate, period) = (rate.name(), period_like(after_colon(word)));
             format!(in alloc;
-                "{name} is a counter and takes no period; write {name}, or {rate}:{period} for its rate"
+                "{name} is a counter and takes no period; write {name} or {rate}:{period}, whichever HAProxy's table stores"
             )
         }
         None => format!(in alloc; "{name} is not a rate and takes no period; write {name}"),
@@ -157,11 +147,7 @@ fn period_sentence(alloc: Global, word: &[u8]) -> Result<String, AllocError> {
 
 /// Returns the period in milliseconds that is meant by `time`, or an example if it is none.
 fn period_like(time: &[u8]) -> u64 {
-    match (period_in(time), number(time, LONGEST_PERIOD)) {
-        (Some(period), _) => period,
-        (None, Some(period)) if period > 0 => period,
-        _ => 10_000,
-    }
+    period_in(time).unwrap_or(10_000)
 }
 
 /// Returns what comes after the first `:` of `word`, or nothing.

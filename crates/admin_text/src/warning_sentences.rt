@@ -30,7 +30,7 @@ pub(crate) fn warning_sentence(
         )?,
         Warning::Outside => outside_sentence(alloc, word_at(words, 2))?,
         Warning::Unused => format!(in alloc;
-            "this line has no effect, because no table name begins with \"/\"; write /NAME for the table NAME of a peers section"
+            "this line has no effect, because no table name begins with \"/\"; write /NAME for the table NAME of a peers section, or delete this line if there is none"
         )?,
         Warning::Length => length_sentence(alloc, word_at(words, 4))?,
         Warning::Section => section_sentence(alloc, word_at(words, 2))?,

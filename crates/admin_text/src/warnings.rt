@@ -154,7 +154,7 @@ impl Warnings {
 
 /// What is said if there are no peers.
 const NO_PEERS: &str =
-    "there is no line \"peer NAME ..\", so the tables aren't shared with any peer";
+    "add a line \"peer NAME [ADDRESS] [from NETWORK..]\", as in \"peer lb1 10.0.0.1:10000\"; without one the tables aren't shared with any peer";
 
 /// Returns what is legal in these lines, and surely meant otherwise: in those that none of these faults names, if there are fewer than 20.
 pub(crate) fn warnings_beside(

@@ -201,7 +201,7 @@ answered_get Partial q later j a apart = by (owes (slice_get a.peers q))
     by false = refl
 answered_get Incomplete q later j a apart = by (owes (slice_get a.peers q))
   where
-    by : (b : Bool) → slice_get (AskingState.peers (cond b (stood standings.Incomplete q a) a)) j ≡ slice_get a.peers j
+    by : (b : Bool) → slice_get (AskingState.peers (cond b (record (stood standings.Incomplete q a) { incomplete = true }) a)) j ≡ slice_get a.peers j
     by true = others_stay (λ p. record p { standing = standings.Incomplete }) a.peers q j apart
     by false = refl
 answered_get Nothing q later j a apart = refl
@@ -219,7 +219,7 @@ answered_ahead Partial q later t a = by (owes (slice_get a.peers q))
     by false = refl
 answered_ahead Incomplete q later t a = by (owes (slice_get a.peers q))
   where
-    by : (b : Bool) → ahead t (AskingState.peers (cond b (stood standings.Incomplete q a) a)) ≡ ahead t a.peers
+    by : (b : Bool) → ahead t (AskingState.peers (cond b (record (stood standings.Incomplete q a) { incomplete = true }) a)) ≡ ahead t a.peers
     by true = as_many_ahead t standings.Incomplete a.peers q
     by false = refl
 answered_ahead Nothing q later t a = refl
@@ -228,7 +228,7 @@ answered_none : (answer : Answer) (q now : ℕ) (a : AskingState) (d : Candidate
 answered_none Finished q now a d found = ap (λ (b : Bool). AskingState.awaited (cond b (record (asked q now a) { taught = true; awaited = None }) (asked q now a))) (owes_then q now a d found)
 answered_none Partial q now a d found = ap (λ (b : Bool). AskingState.awaited (cond b (stood standings.Partial q (asked q now a)) (asked q now a))) (owes_then q now a d found)
     ∙ ap (λ (b : Bool). cond b None (Some (record { peer = q; asked_at = now; since = now }))) (eq-eqb q q refl)
-answered_none Incomplete q now a d found = ap (λ (b : Bool). AskingState.awaited (cond b (stood standings.Incomplete q (asked q now a)) (asked q now a))) (owes_then q now a d found)
+answered_none Incomplete q now a d found = ap (λ (b : Bool). AskingState.awaited (cond b (record (stood standings.Incomplete q (asked q now a)) { incomplete = true }) (asked q now a))) (owes_then q now a d found)
     ∙ ap (λ (b : Bool). cond b None (Some (record { peer = q; asked_at = now; since = now }))) (eq-eqb q q refl)
 answered_none Nothing q now a d found = ap (λ (b : Bool). cond (b || nat_le 600000 (now + 5000 - now)) None (Some (record { peer = q; asked_at = now; since = now }))) (le-leb 5000 (now + 5000 - now) (omega arith))
 

@@ -37,7 +37,7 @@ keep_up (FinishesPartly peer) a up = by (owes (slice_get a.peers peer))
     by false = up
 keep_up (FinishesIncompletely peer) a up = by (owes (slice_get a.peers peer))
   where
-    by : (b : Bool) → AskingState.taught (cond b (stood standings.Incomplete peer a) a) ≡ true
+    by : (b : Bool) → AskingState.taught (cond b (record (stood standings.Incomplete peer a) { incomplete = true }) a) ≡ true
     by true = up
     by false = up
 keep_up (Passes now) a up = by (is_settled now (lapsed now a))
@@ -80,7 +80,7 @@ step_since peer now (FinishesPartly other) a times since = by (owes (slice_get a
     by false = since
 step_since peer now (FinishesIncompletely other) a times since = by (owes (slice_get a.peers other))
   where
-    by : (b : Bool) → Since peer now (AskingState.peers (cond b (stood standings.Incomplete other a) a))
+    by : (b : Bool) → Since peer now (AskingState.peers (cond b (record (stood standings.Incomplete other a) { incomplete = true }) a))
     by true = since_still (λ p. record p { standing = standings.Incomplete }) a.peers peer other now (λ c. refl) since
     by false = since
 step_since peer now (Passes when) a times since = by (is_settled when (lapsed when a))
@@ -195,7 +195,7 @@ step_length (FinishesPartly other) a = by (owes (slice_get a.peers other))
     by false = refl
 step_length (FinishesIncompletely other) a = by (owes (slice_get a.peers other))
   where
-    by : (b : Bool) → length (AskingState.peers (cond b (stood standings.Incomplete other a) a)) ≡ length a.peers
+    by : (b : Bool) → length (AskingState.peers (cond b (record (stood standings.Incomplete other a) { incomplete = true }) a)) ≡ length a.peers
     by true = changed_length (λ p. record p { standing = standings.Incomplete }) other a.peers
     by false = refl
 step_length (Passes when) a = by (is_settled when (lapsed when a))
@@ -299,7 +299,7 @@ step_limit peer t then (FinishesPartly other) a due from until stands = by (owes
     by false = same_le (limit t then a)
 step_limit peer t then (FinishesIncompletely other) a due from until stands = by (owes (slice_get a.peers other))
   where
-    by : (b : Bool) → limit t then (cond b (stood standings.Incomplete other a) a) ≤ limit t then a
+    by : (b : Bool) → limit t then (cond b (record (stood standings.Incomplete other a) { incomplete = true }) a) ≤ limit t then a
     by true = no_more _ _ _ _ (as_many then (λ p. record p { standing = standings.Incomplete }) a.peers other (λ c. refl)) (unless_less t other a.awaited)
     by false = same_le (limit t then a)
 step_limit peer t then (Passes when) a due from until stands = by (is_settled when (lapsed when a))

@@ -60,7 +60,7 @@ step_stands peer t (FinishesPartly other) a stays none stands = by (owes (slice_
     by false = stands
 step_stands peer t (FinishesIncompletely other) a stays none stands = by (owes (slice_get a.peers other))
   where
-    by : (b : Bool) → Stands peer t (AskingState.peers (cond b (stood standings.Incomplete other a) a))
+    by : (b : Bool) → Stands peer t (AskingState.peers (cond b (record (stood standings.Incomplete other a) { incomplete = true }) a))
     by true = other_stands (λ p. record p { standing = standings.Incomplete }) a.peers peer other t (another other peer stays) stands
     by false = stands
 step_stands peer t (Passes now) a stays none stands = by (is_settled now (lapsed now a))
@@ -174,7 +174,7 @@ step_ahead peer now t (FinishesPartly other) a due times stands = none_more _ _ 
     by false = refl
 step_ahead peer now t (FinishesIncompletely other) a due times stands = none_more _ _ (by (owes (slice_get a.peers other)))
   where
-    by : (b : Bool) → ahead t (AskingState.peers (cond b (stood standings.Incomplete other a) a)) ≡ ahead t a.peers
+    by : (b : Bool) → ahead t (AskingState.peers (cond b (record (stood standings.Incomplete other a) { incomplete = true }) a)) ≡ ahead t a.peers
     by true = as_many t (λ p. record p { standing = standings.Incomplete }) a.peers other (λ c. refl)
     by false = refl
 step_ahead peer now t (Passes then) a due times stands = none_more _ _ (by (is_settled then (lapsed then a)))

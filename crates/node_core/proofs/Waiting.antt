@@ -52,7 +52,7 @@ waits_on a w (FinishesPartly peer) is may = (w, by (owes (slice_get a.peers peer
     by false = is
 waits_on a w (FinishesIncompletely peer) is may = (w, by (owes (slice_get a.peers peer)), refl)
   where
-    by : (b : Bool) → AskingState.awaited (cond b (stood standings.Incomplete peer a) a) ≡ Some w
+    by : (b : Bool) → AskingState.awaited (cond b (record (stood standings.Incomplete peer a) { incomplete = true }) a) ≡ Some w
     by true = kept_unless a.awaited w peer is may
     by false = is
 waits_on a w (Passes now) is may = (w, still, refl)
@@ -132,7 +132,7 @@ step_are P a (FinishesPartly other) leaves are = by (owes (slice_get a.peers oth
     by false = are
 step_are P a (FinishesIncompletely other) leaves are = by (owes (slice_get a.peers other))
   where
-    by : (b : Bool) → Are P (AskingState.awaited (cond b (stood standings.Incomplete other a) a))
+    by : (b : Bool) → Are P (AskingState.awaited (cond b (record (stood standings.Incomplete other a) { incomplete = true }) a))
     by true = unless_are P other a.awaited are
     by false = are
 step_are P a (Passes now) leaves are = passes_are P now (is_settled now a) a are

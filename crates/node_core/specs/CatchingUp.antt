@@ -8,11 +8,12 @@ use Rattle.node_core.specs.declared.asking.Awaited.{Awaited}
 use Rattle.node_core.specs.declared.asking.WaitEnd.{WaitEnd}
 use Rattle.node_core.specs.declared.asking.WaitEnd.TheVariants as waits
 
--- Whether the node has been taught all rows, or has settled for what its peers have; the peer that is waited for, when it was asked, and
--- since when it has been silent; and how each peer stands.
+-- Whether the node has been taught all rows, or has settled for what its peers have, or whether one has shown that it doesn't define all
+-- tables as the node does; the peer that is waited for, when it was asked, and since when it has been silent; and how each peer stands.
 pub record AskingState : Type 0 where
   pub taught : Bool
   pub settled : Bool
+  pub incomplete : Bool
   pub awaited : Option Awaited
   pub peers : List Candidate
 
@@ -112,7 +113,7 @@ partly_finished peer a = if owes (slice_get a.peers peer) then stood standings.P
 
 -- a peer that was asked has taught all rows but those of tables that it doesn't define as this node does
 abbrev pub incompletely_finished : ℕ → AskingState → AskingState
-incompletely_finished peer a = if owes (slice_get a.peers peer) then stood standings.Incomplete peer a else a
+incompletely_finished peer a = if owes (slice_get a.peers peer) then record (stood standings.Incomplete peer a) { incomplete = true } else a
 
 -- a peer has brought a row: it isn't mute, if it is waited for
 abbrev pub heard_from : ℕ → ℕ → Awaited → Awaited

@@ -97,14 +97,16 @@ pub enum WaitEnd {
 /// ends its resync, loses its session, or has brought no row for `PATIENCE`, and for `LONGEST` in all; an end that comes later counts
 /// all the same. A peer that didn't answer, or only in part, can be asked again a minute after it was asked or last brought a row, at the
 /// latest `LATEST` after it was asked, or on its next session; one that defines a table otherwise than this node, or not at all, only on its
-/// next session, since on this one it defines it no other way. The node asks until a peer has taught it all rows. It is up to date from then
-/// on, or once all peers with a session have taught what they have.
+/// next session: HAProxy defines a table only once on a session. The node asks until a peer has taught it all rows. It is up to date from
+/// then on, or once all peers with a session have taught what they have.
 #[derive(Drop)]
 pub struct Asking {
     /// Whether a peer has taught all rows, or there is no peer.
     taught: bool,
     /// Whether the node took itself to be up to date since nobody had more to teach.
     settled: bool,
+    /// Whether a peer that was asked has shown that it defines some table otherwise than this node, or not at all.
+    incomplete: bool,
     awaited: Option<Awaited>,
     /// The peers, in the configuration's order.
     peers: Vec<Candidate>,
@@ -115,10 +117,10 @@ impl Model for Asking {
 
     ghost Value = { AskingState };
 
-    ghost view = { λ a. record { taught = a.taught; settled = a.settled; awaited = a.awaited; peers = a.peers.items } };
+    ghost view = { λ a. record { taught = a.taught; settled = a.settled; incomplete = a.incomplete; awaited = a.awaited; peers = a.peers.items } };
 }
 
-/// Returns whether `PAUSE` has passed since a moment, if there is one.
+/// Returns whether `PAUSE` has passed since `since`, if there is such a moment.
 fn is_rested(since: Option<u64>, now: u64) -> bool
     ensures { result ≡ is_rested now since }
 {
@@ -128,7 +130,7 @@ fn is_rested(since: Option<u64>, now: u64) -> bool
     }
 }
 
-/// Returns whether a peer that was last asked then was so `LATEST` ago.
+/// Returns whether a peer that was last asked at `asked_at` was asked `LATEST` ago, or was never asked.
 fn is_overdue(asked_at: Option<u64>, now: u64) -> bool
     ensures { result ≡ is_overdue now asked_at }
 {
@@ -138,7 +140,7 @@ fn is_overdue(asked_at: Option<u64>, now: u64) -> bool
     }
 }
 
-/// Returns whether a peer that was last asked at `one` was asked no later than one that was at `other`.
+/// Returns whether a peer that was last asked at `one` was asked no later than one that was last asked at `other`.
 fn is_no_later(one: Option<u64>, other: Option<u64>) -> bool
     ensures { result ≡ is_no_later one other }
 {
@@ -316,6 +318,7 @@ impl Asking {
     pub fn new(alloc: Global, peers: usize) -> Result<Asking, AllocError>
         ensures taught { IfOk result (λ asking. asking.taught ≡ (peers == 0)) }
         ensures settled { IfOk result (λ asking. asking.settled ≡ false) }
+        ensures incomplete { IfOk result (λ asking. asking.incomplete ≡ false) }
         ensures awaited { IfOk result (λ asking. asking.awaited ≡ None) }
         ensures peers { IfOk result (λ asking. asking.peers ≡ replicate peers (record { standing = standings.Away; asked_at = None; since = None })) }
     {
@@ -327,6 +330,7 @@ impl Asking {
         Ok(Asking {
             taught: peers == 0,
             settled: false,
+            incomplete: false,
             awaited: None,
             peers: vec![in alloc; away; peers]?,
         })
@@ -344,6 +348,14 @@ impl Asking {
         ensures { result ≡ self.now.taught }
     {
         self.taught
+    }
+
+    /// Returns whether a peer that was asked has shown that it defines some table otherwise than this node, or not at all, so that another peer
+    /// may have rows that this node lacks though it is up to date.
+    pub fn is_incomplete(&self) -> bool
+        ensures { result ≡ self.now.incomplete }
+    {
+        self.incomplete
     }
 
     /// Notes that a session with the peer with this index begins.
@@ -443,6 +455,7 @@ impl Asking {
     {
         if owes(self.peers.as_slice(), peer) {
             self.stand(peer, Standing::Incomplete);
+            self.incomplete = true;
         }
     }
 

@@ -108,7 +108,7 @@ pub enum Event<'a> {
     Stop,
     /// The node has ended all its sessions.
     Stopped {
-        /// How many it cut, since their peers hadn't acknowledged all in time.
+        /// How many it cut, since they were still at work or their peers hadn't acknowledged all rows in time.
         cut: u64,
     },
 }

@@ -29,7 +29,7 @@ impl Level {
         }
     }
 
-    /// Returns whether a line of `level` is written if this is the last level whose lines are.
+    /// Returns whether a line of `level` is written if this is the level that the configuration names.
     pub fn covers(self, level: Level) -> bool
         ensures { result ≡ covers self level }
     {

@@ -32,7 +32,7 @@ pub struct Renewal {
 }
 
 impl Renewal {
-    /// Returns what no table waits for.
+    /// Returns how it is while no table waits for new numbers.
     pub fn new() -> Renewal
         ensures since { result.since ≡ None }
         ensures rest { result.rest ≡ 0 }

@@ -64,8 +64,8 @@ abbrev pub wait_name : WaitEnd → List ℕ
 wait_name waits.Mute = codes "mute"
 wait_name waits.Endless = codes "endless"
 
--- the status that answers a hello that is refused so (HAProxy, doc/peers-v2.0.txt; that one that comes too late is no hello, is a choice
--- of this project)
+-- the status that answers a hello that is refused for this reason (HAProxy, doc/peers-v2.0.txt; that one that comes too late is answered
+-- 501 is a choice of this project)
 abbrev pub status_of : HelloRefusal → ℕ
 status_of refusals.Garbled = 501
 status_of refusals.Version = 502

@@ -94,7 +94,7 @@ fn peer_event_level(event: &PeerEvent<'_>) -> Level
     }
 }
 
-/// Returns how much it matters that the node has stopped, which cut so many sessions.
+/// Returns how much it matters that the node has stopped and cut `cut` sessions.
 fn stop_level(cut: u64) -> Level
     ensures { result ≡ stop_level cut }
 {

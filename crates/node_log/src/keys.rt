@@ -162,7 +162,7 @@ fn push_hello(
     push_said(text, refusal, said)
 }
 
-/// Appends what a hello that was refused so says instead of what it should.
+/// Appends what a hello that was refused for `refusal` says instead of what it should.
 fn push_said(text: &mut Vec<u8>, refusal: HelloRefusal, said: &[u8]) -> Result<(), AllocError>
     ensures { OnOk result (text.new.items ≡ text.old.items ++ said_field refusal said.now) }
 {
@@ -177,7 +177,7 @@ fn push_said(text: &mut Vec<u8>, refusal: HelloRefusal, said: &[u8]) -> Result<(
     }
 }
 
-/// Returns the status that answers a hello that is refused so.
+/// Returns the status that answers a hello that is refused for `refusal`.
 pub fn status_of(refusal: HelloRefusal) -> u16
     ensures { result ≡ status_of refusal }
 {

@@ -54,7 +54,7 @@ fn push_head(text: &mut Vec<u8>, form: Form, level: Level) -> Result<(), AllocEr
     }
 }
 
-/// Appends the time that many milliseconds after the beginning of 1970.
+/// Appends the time `milliseconds` after the beginning of 1970.
 fn push_time(text: &mut Vec<u8>, milliseconds: u64) -> Result<(), AllocError>
     ensures { OnOk result (AddsTime milliseconds text.old.items text.new.items) }
 {

@@ -61,13 +61,13 @@ pub(crate) fn sentence_of(alloc: Global, event: &Event<'_>) -> Result<String, Al
     }
 }
 
-/// Returns the sentence about a node that has stopped, and cut so many sessions.
+/// Returns the sentence about a node that has stopped and cut `cut` sessions.
 fn stop_sentence(alloc: Global, cut: u64) -> Result<String, AllocError> {
     if cut == 0 {
         String::from_str(alloc, "the node has stopped, and cut no session")
     } else {
         format!(in alloc;
-            "the node has stopped, and cut sessions that were still at work or not acknowledged after 3 s: {cut}"
+            "the node has stopped, and cut sessions ({cut}) that after 3 s were still at work, or whose peer hadn't acknowledged all rows: that peer may lack the last changes"
         )
     }
 }
@@ -118,7 +118,7 @@ fn up_to_date_sentence(alloc: Global, teacher: Option<&[u8]>) -> Result<String, 
         }
         None => String::from_str(
             alloc,
-            "this node is up to date, since no peer has more to teach",
+            "this node is up to date, since no connected peer has more to teach: it may lack rows of peers that aren't connected, and of tables that a peer defines otherwise",
         ),
     }
 }
@@ -207,7 +207,7 @@ fn peer_sentence(alloc: Global, name: &str, event: &PeerEvent<'_>) -> Result<Str
         PeerEvent::ShortSessions { node, .. } => {
             let node = text_of(node);
             format!(in alloc;
-                "{name} closes each session within seconds: another node may go by the name {node} there, or {name} is starting again and again"
+                "{name} closes each session within seconds: another node may go by the name {node} there and needs another one, {name} may be starting again and again, or this node is too slow for it"
             )
         }
         _ => table_sentence(alloc, name, event),
@@ -238,11 +238,13 @@ fn meaning_of(fault: &[u8]) -> Option<&'static str> {
         b"SizeLimit" => "a message is too long, or too many tables are defined",
         b"BadDefinition" | b"UnknownDataType" =>
             "the definition of a table is cut, or out of range",
-        b"NoTable" => "a message is of no table that was defined",
+        b"NoTable" =>
+            "a message is of no table that was defined, a bug at one end: report it with both versions",
         b"BadKey" => "an update is cut, or its key is none of its table",
         b"BadValue" => "the values of an update are cut, or out of range",
         b"Trailing" => "a message is longer than its fields",
-        b"EmptySlot" => "an update takes its server's name from where none was put",
+        b"EmptySlot" =>
+            "an update takes its server's name from where none was put, a bug at one end: report it with both versions",
         b"NoNumber" => "an update has no number, and none came before it",
         b"AckAhead" => "it has acknowledged an update that it wasn't sent",
         _ => return None,
@@ -263,7 +265,7 @@ fn fault_sentence(alloc: Global, name: &str, fault: &[u8]) -> Result<String, All
 fn wait_sentence(alloc: Global, name: &str, why: WaitEnd) -> Result<String, AllocError> {
     match why {
         WaitEnd::Mute => format!(in alloc;
-            "this node no longer waits for {name}, which has sent neither a row nor the end of its resync for 5 s"
+            "this node no longer waits for {name}, which has sent neither a row nor the end of its resync for 5 s: it hangs or is busy, or this node was too slow to read"
         ),
         WaitEnd::Endless => format!(in alloc;
             "this node no longer waits for {name}, which goes on sending rows and hasn't ended its resync within ten minutes"
@@ -328,13 +330,13 @@ fn table_sentence(alloc: Global, name: &str, event: &PeerEvent<'_>) -> Result<St
             "{name} has this table, and this node lacks it, so its rows are passed over: to share it, add a line \"table ..\" with this name here"
         ),
         PeerEvent::Undefined { table } if is_of_section(table) => format!(in alloc;
-            "this node has this table, and {name} hasn't defined it: its section of peers may lack it, or a proxy has it there, whose tables have no / in a name here"
+            "this node has this table, and {name} hasn't defined it: its section of peers may lack it, or a proxy has it there, whose tables have no / in a name here; or {name} is a node like this one, and the table is empty there"
         ),
         PeerEvent::Undefined { .. } => format!(in alloc;
-            "this node has this table, and {name} hasn't defined it: it may lack it, or its section of peers has it, whose tables have a / before their name here"
+            "this node has this table, and {name} hasn't defined it: it may lack it, or its section of peers has it, whose tables have a / before their name here; or {name} is a node like this one, and the table is empty there"
         ),
         PeerEvent::Left { .. } => format!(in alloc;
-            "{name} acknowledges no row of this table, so none is taught any longer on this connection: it may lack the table, or have it with another kind or length of keys"
+            "{name} has acknowledged no row of this table within 2 s, so none is taught any longer on this connection: it may lack the table, or have it with another kind or length of keys; if it only was slow or stood still, the next session mends it, so start {name} again"
         ),
         PeerEvent::PassedOver { further: true, .. } => format!(in alloc;
             "a table of {name} stores data types from 20 up, as gpc(4), so this node passes over its rows: give these types a table of their own there"
@@ -380,7 +382,7 @@ fn resync_sentence(
     match (taught, end) {
         (false, ResyncEnd::Finished) => format!(in alloc; "{name} has taught this node all rows"),
         (false, ResyncEnd::Incomplete) => format!(in alloc;
-            "{name} has taught this node its rows, but has no rows of some table, or doesn't define it as this node does: other peers are asked as well"
+            "{name} has taught this node its rows, but has no rows of some table, or doesn't define it as this node does, as a line mismatch or undefined says: other peers, if there are any, are asked as well"
         ),
         (false, ResyncEnd::Partial) => format!(in alloc;
             "{name} has taught this node the rows that it has, but isn't up to date itself or has left a table"
@@ -389,16 +391,24 @@ fn resync_sentence(
         (true, ResyncEnd::Incomplete | ResyncEnd::Partial) => format!(in alloc;
             "this node has taught {name} the rows that it has, but wasn't up to date itself or had left a table"
         ),
-        (_, ResyncEnd::Broken) => format!(in alloc;
-            "the session with {name} ended before the resync did"
+        (false, ResyncEnd::Broken) => format!(in alloc;
+            "the session with {name} ended before it had taught this node all rows: unless this node is up to date, it asks {name} again on the next session, or another peer"
+        ),
+        (true, ResyncEnd::Broken) => format!(in alloc;
+            "the session with {name} ended before this node had taught it all rows: {name} has to ask again"
         ),
     }
 }
 
-/// Returns what stands behind "ended" if this is known of the cause.
+/// Returns what stands behind "ended", given what is known of the cause.
 fn or_failure(cause: &str) -> &str {
     if cause.is_empty() {
         "by a failure"
+    } else if is_same_name(
+        cause.as_bytes(),
+        b"by a failed write: Broken pipe".as_slice(),
+    ) {
+        "by a failed write: Broken pipe, since the peer had closed it"
     } else {
         cause
     }
@@ -426,7 +436,7 @@ fn no_session_sentence(
             format!(in alloc; "before {name} answered, the connection to it ended {cause}")
         }
         NoSession::AtOnce => format!(in alloc;
-            "{name} took this node's hello, and the connection ended at once"
+            "{name} took this node's hello, and the connection ended at once: it may be stopping, or another node goes by this node's name there"
         ),
         NoSession::Lacking if cause.is_empty() => format!(in alloc;
             "this node lacks memory or a thread for a session with {name}"

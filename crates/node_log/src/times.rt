@@ -11,7 +11,7 @@ const LAST: u64 = 253_402_300_799_999;
 /// A time as a line of the log says it.
 pub(crate) type TimeText = [u8; 24];
 
-/// Returns the time that many milliseconds after the beginning of 1970 in UTC, as `2026-11-28T12:00:00.123Z`. No later one than the last
+/// Returns the time `milliseconds` after the beginning of 1970 in UTC, as `2026-11-28T12:00:00.123Z`. No later one than the last
 /// of the year 9999 is said.
 pub(crate) fn time_of(milliseconds: u64) -> TimeText
     ensures { IsTime milliseconds result }
@@ -19,7 +19,7 @@ pub(crate) fn time_of(milliseconds: u64) -> TimeText
     time_text(date_time_of(milliseconds.min(LAST)))
 }
 
-/// Returns the date and time of day that many milliseconds after the beginning of 1970.
+/// Returns the date and time of day `milliseconds` after the beginning of 1970.
 fn date_time_of(milliseconds: u64) -> DateTime
     requires { milliseconds ≤ 253402300799999 }
     ensures { civil_nanos result ≡ pos (milliseconds * 1000000) }

@@ -69,14 +69,14 @@ pub struct Waiting {
 }
 
 impl Limited {
-    /// Returns whether these are the lines of this event about this peer.
+    /// Returns whether these are the lines of `event` about `peer`.
     fn are_of(&self, event: &str, peer: Option<usize>) -> bool
         ensures { result ≡ are_of event.now peer self.now }
     {
         is_same_peer(self.peer, peer) && is_same_name(self.event.as_bytes(), event.as_bytes())
     }
 
-    /// Returns whether it is to be said how many lines were left out: the first of them came a second ago, or no more lines come.
+    /// Returns whether the line is due that says how many lines were left out: the first of them came a second ago, or no more lines come.
     fn is_due(&self, now: u64, last: bool) -> bool
         ensures { result ≡ is_due now last self.now }
     {

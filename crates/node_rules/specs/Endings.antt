@@ -66,7 +66,7 @@ interruption now o tables acknowledged e =
     if o.replaced then Some ends.Replaced
     else (if o.paused || has_taught_all now o.stops tables acknowledged e then Some ends.End else None)
 
--- one that is over by itself ended so, unless it was to end anyway; and for a stop if the node stops
+-- a session that is over by itself ends as it did, unless it was to end anyway; and for a stop if the node stops
 abbrev pub end_of_over : SessionEnd → Bool → Option SessionEnd → SessionEnd
 end_of_over end stops (Some interruption) = interruption
 end_of_over end stops None = if stops then ends.End else end

@@ -83,7 +83,7 @@ shown_role r = if stands r then r.role else None
 
 -- ---- attempts
 
--- why there is no session after an attempt that failed so, by the name of its event in the log
+-- why there is no session after an attempt with this failure, by the name of its event in the log
 abbrev pub error_after : Failure → LastError
 error_after (failures.Unreachable reason) = errors.Unreachable
 error_after (failures.Refused status) = errors.Refused status

@@ -2,8 +2,6 @@
 use Rattle.std.specs.Prelude.{ℕ, ◌-◌, Bool, true, false, not, ◌&&◌, ◌||◌, ◌==◌, nat_lt, Option, None, Some, if◌then◌else◌}
 use Rattle.node_core.specs.declared.events.ResyncEnd.{ResyncEnd}
 use Rattle.node_core.specs.declared.events.ResyncEnd.TheVariants as ends
-use Rattle.node_core.specs.declared.processes.Process.{Process}
-use Rattle.node_core.specs.declared.processes.Process.TheVariants as processes
 use Rattle.node_rules.specs.declared.resyncs.Learning.{Learning}
 use Rattle.node_rules.specs.declared.resyncs.Resync.{Resync}
 use Rattle.node_rules.specs.declared.resyncs.ResyncsHeard.{ResyncsHeard}
@@ -20,20 +18,6 @@ counts_as defined alike ends.Finished = if defined == 0 || alike then ends.Finis
 counts_as defined alike ends.Incomplete = ends.Incomplete
 counts_as defined alike ends.Partial = ends.Partial
 counts_as defined alike ends.Broken = ends.Broken
-
--- ---- whom a node asks
-
--- its hello says that the peer may be another process than before
-abbrev pub may_be_new : Option Process → Bool
-may_be_new None = false
-may_be_new (Some processes.Unknown) = true
-may_be_new (Some processes.New) = true
-may_be_new (Some processes.Same) = false
-
--- A node that isn't up to date asks each peer on its session. One that is asks a peer that it never asked, one that may be another process
--- than the one that it asked, and one once it has defined all tables as the node does.
-abbrev pub is_asked_on : Bool → Bool → Option Process → Bool → Bool
-is_asked_on up_to_date was_asked process alike = not up_to_date || (not was_asked || (may_be_new process || alike))
 
 -- ---- the node is the teacher
 

@@ -5,17 +5,17 @@ use Rattle.admin_port.specs.Idle.{IsLongest, is_at_work}
 use Rattle.node_rules.specs.declared.seats.Room.{Room}
 use Rattle.node_rules.specs.declared.seats.Room.TheVariants as rooms
 
--- a place has been so for at least this long
+-- a place has an entry, at least `least` ago
 abbrev pub is_long : ℕ → ℕ → Option (Option ℕ) → Bool
 is_long least now None = false
 is_long least now (Some None) = false
 is_long least now (Some (Some own)) = nat_le least (now - own)
 
--- it is the one that has been so longest
+-- its entry is the earliest, and at least `least` ago
 abbrev pub GoesAfter : ℕ → ℕ → List (Option ℕ) → ℕ → Type 0
 GoesAfter least now since place = IsLongest since place × (is_long least now (slice_get since place) ≡ true)
 
--- no place has been so for that long
+-- no entry is that long ago
 abbrev pub Stays : ℕ → ℕ → List (Option ℕ) → Type 0
 Stays least now since = list_all (λ own. not (is_long least now (Some own))) since ≡ true
 

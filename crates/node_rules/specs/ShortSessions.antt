@@ -30,7 +30,7 @@ count_after end given_up lasted s =
     if nat_le 10000 lasted then record s { count = 0 }
     else (if is_peers end given_up then record s { count = one_more s.count } else s)
 
--- that there were three is told, once until one lasts
+-- the third in a row is told, and no later one until a session lasts
 abbrev pub third : ℕ → Option ℕ
 third n = if n == 3 then Some 3 else None
 

@@ -39,7 +39,7 @@ pub fn hello_refusal(status: Option<u16>, may_come: bool) -> Option<HelloRefusal
     }
 }
 
-/// Returns why a hello is refused that isn't whole in time, of which something came or nothing.
+/// Returns why a hello that isn't whole in time is refused, given whether something of it came.
 pub fn late_refusal(came: bool) -> HelloRefusal
     ensures { result ≡ late_refusal came }
 {
@@ -50,7 +50,7 @@ pub fn late_refusal(came: bool) -> HelloRefusal
     }
 }
 
-/// Returns whether a hello that is refused so names its sender.
+/// Returns whether a hello that is refused for `refusal` names its sender.
 pub fn names_sender(refusal: HelloRefusal) -> bool
     ensures { result ≡ names_sender refusal }
 {
@@ -63,7 +63,7 @@ pub fn names_sender(refusal: HelloRefusal) -> bool
     }
 }
 
-/// Returns what a hello that is refused so says instead of what it should, if that is said.
+/// Returns which part of a hello that is refused for `refusal` the log says, since it is wrong.
 pub fn said_in(refusal: HelloRefusal) -> SaidPart
     ensures { result ≡ said_in refusal }
 {

@@ -1,9 +1,10 @@
 //! What a node that stays decides of its sessions and connections, as values and machines without threads, sockets or a clock: when a
 //! session ends, and for what; what is known of a peer, of its resyncs and of its tables; which of its connections stands, and when the
-//! node connects to it; why a hello is refused; when it is told that a peer closes its sessions soon; and which client's connection goes for
+//! node connects to it; why a hello is refused; when the log says that a peer closes its sessions soon; and which client's connection goes for
 //! that of another one.
 #![tactic(auto)]
 
+mod answers;
 mod arrivals;
 mod attempt_laws;
 mod attempts;
@@ -18,6 +19,7 @@ mod resyncs;
 mod seats;
 mod short_sessions;
 
+pub use answers::Answers;
 pub use arrivals::{Arrivals, Kept, LOOK, Stay};
 pub use attempt_laws::attempts_come;
 pub use attempts::{Attempts, NextStep, Prospect};
@@ -28,6 +30,6 @@ pub use findings::{Found, LookTimes, TableFinding, found_of};
 pub use hello_refusals::{SaidPart, hello_refusal, late_refusal, names_sender, said_in};
 pub use peer_record::PeerRecord;
 pub use peer_record_laws::{a_peer_stays_down_since, the_last_error_tells_why};
-pub use resyncs::{Learning, Resync, ResyncsHeard, Teaching, counts_as, is_asked_on, resync_end};
+pub use resyncs::{Learning, Resync, ResyncsHeard, Teaching, counts_as, resync_end};
 pub use seats::{Room, room_for_client, room_for_visit};
 pub use short_sessions::ShortSessions;

@@ -112,7 +112,7 @@ fn counted_end(ended: SessionsEnded, end: SessionEnd) -> SessionsEnded
     }
 }
 
-/// Returns why there is no session after an attempt that failed so.
+/// Returns why there is no session after an attempt that failed with `failure`.
 fn error_after(failure: Failure) -> LastError
     ensures { result ≡ error_after failure }
 {

@@ -1,9 +1,9 @@
 //! The resyncs of a session, as its log and its metrics tell them.
 
 ghost use Rattle.std.specs.Prelude.{◌≡◌, None, is_some};
-ghost use Rattle.node_rules.specs.Resyncs.{asked, begun_at, broken, counts_as, end_of, is_asked_on, learned_in, looked, may_be_new, nothing_asked, nothing_taught, over, resync_end, rows_before};
+ghost use Rattle.node_rules.specs.Resyncs.{asked, begun_at, broken, counts_as, end_of, learned_in, looked, nothing_asked, nothing_taught, over, resync_end, rows_before};
 
-use node_core::{Process, ResyncEnd};
+use node_core::ResyncEnd;
 
 /// A resync that is over.
 #[derive(Clone, Copy, Debug)]
@@ -36,25 +36,6 @@ pub fn counts_as(end: ResyncEnd, defined: usize, alike: bool) -> ResyncEnd
         ResyncEnd::Finished if defined > 0 && !alike => ResyncEnd::Incomplete,
         _ => end,
     }
-}
-
-/// Returns whether a peer that sent a hello may be another process than before, given what that says of it.
-fn may_be_new(process: Option<Process>) -> bool
-    ensures { result ≡ may_be_new process }
-{
-    match process {
-        Some(Process::Unknown | Process::New) => true,
-        Some(Process::Same) | None => false,
-    }
-}
-
-/// Returns whether a peer may be asked for all rows on its session as long as no peer has taught them: each by a node that isn't up to date.
-/// One that is, and goes on to change rows, which a resync replaces, asks only a peer that may have what it lacks: one that it never asked
-/// (`was_asked`), one whose hello says that it may be another `process`, and one once it has defined all tables as the node does (`alike`).
-pub fn is_asked_on(up_to_date: bool, was_asked: bool, process: Option<Process>, alike: bool) -> bool
-    ensures { result ≡ is_asked_on up_to_date was_asked process alike }
-{
-    !up_to_date || !was_asked || may_be_new(process) || alike
 }
 
 /// The resyncs of a session in which the node is the teacher, as far as looks at it tell.

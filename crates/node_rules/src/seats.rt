@@ -23,7 +23,7 @@ pub enum Room {
     Full,
 }
 
-/// Returns whether a place has been so for at least this long, given since when each place has, or that it isn't.
+/// Returns whether `place` has an entry in `since`, and that is at least `least` ago at `now`.
 fn is_long(least: u64, since: &[Option<u64>], place: usize, now: u64) -> bool
     ensures { result ≡ is_long least now (slice_get since.now place) }
 {
@@ -33,7 +33,7 @@ fn is_long(least: u64, since: &[Option<u64>], place: usize, now: u64) -> bool
     }
 }
 
-/// Returns the place that has been so longest, if it has for at least this long.
+/// Returns the place with the earliest entry in `since`, if that is at least `least` ago at `now`.
 #[tactic(auto, using(crate::proofs::Leaving::at_work_stays, crate::proofs::Leaving::longest_stays))]
 fn longest_after(least: u64, since: &[Option<u64>], now: u64) -> Option<usize>
     ensures { MatchOption result (Stays least now since.now) (GoesAfter least now since.now) }

@@ -5,19 +5,19 @@ ghost use Rattle.node_rules.specs.ShortSessions.{count_after, is_closed, none_sh
 
 use node_core::SessionEnd;
 
-/// How long a session lasts that isn't short, in milliseconds, at least.
+/// The least time that a session lasts that isn't short, in milliseconds.
 const LASTING: u64 = 10_000;
 
-/// At how many short sessions it is told that there are so many.
+/// How many short sessions in a row make a line of the log.
 const MANY: u64 = 3;
 
-/// How many sessions a peer has closed soon after they began since one lasted.
+/// How many sessions a peer has closed soon after they began, since the last one that lasted.
 #[derive(Clone, Copy, Debug)]
 pub struct ShortSessions {
     count: u64,
 }
 
-/// Returns whether a session that ended so was closed or cut by the far side, as far as this end can tell.
+/// Returns whether a session that ended as `end` was closed or cut by the far side, as far as this end can tell.
 fn is_closed(end: SessionEnd) -> bool
     ensures { result ≡ is_closed end }
 {
@@ -28,15 +28,15 @@ fn is_closed(end: SessionEnd) -> bool
 }
 
 impl ShortSessions {
-    /// Returns how it is with a peer with which there was no session.
+    /// Returns the count for a peer with which there was no session.
     pub fn new() -> ShortSessions
         ensures { result ≡ none_short }
     {
         ShortSessions { count: 0 }
     }
 
-    /// Notes that a session has ended so, which lasted so many milliseconds; `given_up` says whether no session may stand, since a table
-    /// gets new numbers or the node stops. Returns how many short ones there were, if it is to be told: once until one lasts.
+    /// Notes that a session that lasted `lasted` milliseconds has ended as `end`; `given_up` says whether no session may stand, since a table
+    /// gets new numbers or the node stops. Returns the number of short sessions in a row at the third one, and `None` at any other.
     pub fn end(&mut self, end: SessionEnd, given_up: bool, lasted: u64) -> Option<u64>
         ensures told { result ≡ told end given_up lasted self.old }
         ensures count { self.new ≡ count_after end given_up lasted self.old }

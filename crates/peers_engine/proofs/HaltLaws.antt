@@ -1,5 +1,5 @@
 -- How far an error lets a session's actions go.
-use Rattle.std.proofs.Common.{◌≡◌, ◌⊎◌, ℕ, Bool, true, List, [], ◌∷◌, ◌++◌, Option, Some, None, refl, sym, ap, ◌∙◌, subst, inl, inr, append_assoc}
+use Rattle.std.proofs.Common.{◌≡◌, ◌⊎◌, ℕ, Bool, true, false, List, [], ◌∷◌, ◌++◌, Option, Some, None, refl, sym, ap, ◌∙◌, subst, inl, inr, append_assoc}
 use Rattle.std.proofs.lemmas.List.{append-nil}
 use Rattle.std.proofs.lemmas.List.Concat.{flat_map-append}
 use Rattle.std.proofs.lemmas.Bool.{false≢true, and_parts}
@@ -19,7 +19,7 @@ use Rattle.session_core.specs.Hearing.{asked_in}
 use Rattle.peers_engine.specs.declared.errors.EngineError.{EngineError}
 use Rattle.peers_engine.specs.Doing.{Done}
 use Rattle.peers_engine.specs.Acting.{Acts, DoesNotGoOn, DoneBy, EndsAlike, FailsBy, IsCut, IsLost, IsOver, Stops, IsGiven, Worker, stands}
-use Rattle.peers_engine.specs.Turns.{Breaks, BreaksAt, Halts, HaltsAt, Idles, Reacts, Receives, StopsTurn, TakesTurn, Turns, first_event, is_push}
+use Rattle.peers_engine.specs.Turns.{Breaks, BreaksAt, Halts, HaltsAt, Idles, Reacts, Receives, StopsTurn, TakesTurn, Turns, Works, first_event, is_push}
 use Rattle.peers_engine.proofs.ActLaws.{acts_on, one_act, given_some}
 use Rattle.peers_engine.proofs.RunLaws.{acts_walk, same_moment, walks_on}
 
@@ -99,6 +99,17 @@ pub react_done : (s e : Worker) (mid : KeptSession) (event : Event) (acts done g
 react_done s e mid event acts done given out taken (answers, acted, all) none =
     let is : asked_in answers ≡ done = all ∙ (ap (λ (x : List Action). done ++ x) none ∙ append-nil done) in
     (acts, answers, mid, taken, subst (λ (x : List Action). Acts (stands s mid s.seat) (acts ++ x) answers out e) (sym is) acted)
+
+-- the same, and there was something to do
+pub react_works : (s e : Worker) (mid : KeptSession) (event : Event) (acts done given : List Action) (out : List ℕ)
+    → Steps s.session s.now event acts mid → Went (stands s mid s.seat) acts done given e out → given ≡ [] → (list_all is_push acts ≡ false) ⊎ (done ≢ []) → Works s event out e
+react_works s e mid event acts done given out taken (answers, acted, all) none some =
+    let is : asked_in answers ≡ done = all ∙ (ap (λ (x : List Action). done ++ x) none ∙ append-nil done) in
+    (acts, answers, mid, taken, left answers is some, subst (λ (x : List Action). Acts (stands s mid s.seat) (acts ++ x) answers out e) (sym is) acted)
+  where
+    left : (answers : List (Event × List Action)) → asked_in answers ≡ done → (list_all is_push acts ≡ false) ⊎ (done ≢ []) → (list_all is_push acts ≡ false) ⊎ (asked_in answers ≢ [])
+    left answers is (inl more) = inl more
+    left answers is (inr more) = inr (λ empty. more (sym is ∙ empty))
 
 -- an error among the actions `given`
 pub react_stops : (shards : ShardsState) (s next : Worker) (mid e : KeptSession) (seat : SeatState) (event : Event) (acts done given : List Action) (error : EngineError) (more : List (Event × List Action)) (out rest : List ℕ)

@@ -1,5 +1,5 @@
 -- From one action to a whole turn.
-use Rattle.std.proofs.Common.{◌≡◌, ℕ, Bool, List, [], ◌∷◌, ◌++◌, Option, Some, None, Result, Ok, Err, refl, sym, ap, ◌∙◌, subst, inl, inr}
+use Rattle.std.proofs.Common.{◌≡◌, ◌⊎◌, ℕ, Bool, List, [], ◌∷◌, ◌++◌, Option, Some, None, Result, Ok, Err, refl, sym, ap, ◌∙◌, subst, inl, inr}
 use Rattle.std.specs.Prelude.{◌≢◌, true, false}
 use Rattle.std.specs.List.{list_all}
 use Rattle.std.specs.Io.KnownBytes.{Consumes}
@@ -24,9 +24,9 @@ use Rattle.peers_engine.specs.declared.errors.EngineError.TheVariants as errors
 use Rattle.peers_engine.specs.Doing.{Done, Fails}
 use Rattle.peers_engine.specs.Acting.{Acts, DoesNotGoOn, IsOver, Stops, Worker, stands}
 use Rattle.peers_engine.specs.Reading.{IsRead}
-use Rattle.peers_engine.specs.Turns.{Breaks, BreaksAt, Halts, HaltsAt, Moves, Receives, Idles, Reacts, StopsTurn, TakesTurn, Turns, first_event, is_push}
+use Rattle.peers_engine.specs.Turns.{Breaks, BreaksAt, Halts, HaltsAt, Moves, Receives, Idles, Reacts, StopsTurn, TakesTurn, Turns, Works, WorksInTurn, first_event, is_push}
 use Rattle.peers_engine.proofs.CalmLaws.{ends_after_four}
-use Rattle.peers_engine.proofs.HaltLaws.{Went, act_stops, breaks_at, breaks_of, give_stops, halt_ended, halted, idle_done, none_done, react_done, react_stops, react_stops_first, turns_of, walk_of, went_first, went_on}
+use Rattle.peers_engine.proofs.HaltLaws.{Went, act_stops, breaks_at, breaks_of, give_stops, halt_ended, halted, idle_done, none_done, react_done, react_stops, react_stops_first, react_works, turns_of, walk_of, went_first, went_on}
 
 -- ---- the actions so far, and one more
 
@@ -118,6 +118,14 @@ pub later_fails : (shards : ShardsState) (s next : Worker) (mid e : KeptSession)
 later_fails shards s next mid e seat event acts done given error a b d taken (out, went, appended) (more, rest, stops, then) =
     (out ++ rest, react_stops shards s next mid e seat event acts done given error more out rest taken went stops, writes_then a b d out rest appended then)
 
+four_end : (begun one two three e : Worker) (acts first second third last : List Action) (a b d f h : Written)
+    → AreDone begun acts first one a b → AreDone one first second two b d → AreDone two second third three d f → AreDone three third last e f h → last ≡ []
+four_end begun one two three e acts first second third last a b d f h (p, w, acted, is, also) (q, x, acted_two, is_two, also_two) (r, y, acted_three, is_three, also_three) (t, z, acted_four, is_four, also_four) =
+    is_four ∙ ends_after_four begun one two three e acts p q r t w x y z acted
+    (subst (λ (g : List Action). Acts one g q x two) is acted_two)
+    (subst (λ (g : List Action). Acts two g r y three) is_two acted_three)
+    (subst (λ (g : List Action). Acts three g t z e) is_three acted_four)
+
 -- the four lists of actions are performed, and nothing more is asked for
 pub four_done : (s one two three e : Worker) (mid : KeptSession) (event : Event) (acts first second third last : List Action) (a b d f h : Written)
     → Steps s.session s.now event acts mid → AreDone (stands s mid s.seat) acts first one a b → AreDone one first second two b d → AreDone two second third three d f → AreDone three third last e f h
@@ -127,14 +135,27 @@ four_done s one two three e mid event acts first second third last a b d f h tak
     let went = next_went begun three e acts (([] ++ first) ++ second) third last a f h
     (next_went begun two three acts ([] ++ first) second third a d f (next_went begun one two acts [] first second a b d (first_went begun one acts first a b done_one) done_two) done_three) done_four in
     (went.0, react_done s e mid event acts ((([] ++ first) ++ second) ++ third) last went.0 taken went.1 (four_end begun one two three e acts first second third last a b d f h done_one done_two done_three done_four), went.2)
+
+-- the same, and there was something to do
+abbrev pub HasWorked : Worker → Event → Worker → Written → Written → Type 0
+HasWorked s event e old new = (out : List ℕ) × Works s event out e × AreWritten old new out
+
+some_of : (xs ys zs : List Action) → xs ≢ [] → (xs ++ ys) ++ zs ≢ []
+some_of [] ys zs some = absurd (some refl)
+some_of (x ∷ xs) ys zs some = λ is. cc is
+
+pub four_works : (s one two three e : Worker) (mid : KeptSession) (event : Event) (acts first second third last : List Action) (a b d f h : Written)
+    → Steps s.session s.now event acts mid → AreDone (stands s mid s.seat) acts first one a b → AreDone one first second two b d → AreDone two second third three d f → AreDone three third last e f h
+    → (list_all is_push acts ≡ false) ⊎ (first ≢ []) → HasWorked s event e a h
+four_works s one two three e mid event acts first second third last a b d f h taken done_one done_two done_three done_four some =
+    let begun = stands s mid s.seat in
+    let went = next_went begun three e acts (([] ++ first) ++ second) third last a f h
+    (next_went begun two three acts ([] ++ first) second third a d f (next_went begun one two acts [] first second a b d (first_went begun one acts first a b done_one) done_two) done_three) done_four in
+    (went.0, react_works s e mid event acts ((([] ++ first) ++ second) ++ third) last went.0 taken went.1 (four_end begun one two three e acts first second third last a b d f h done_one done_two done_three done_four) (by some), went.2)
   where
-    four_end : (begun one two three e : Worker) (acts first second third last : List Action) (a b d f h : Written)
-        → AreDone begun acts first one a b → AreDone one first second two b d → AreDone two second third three d f → AreDone three third last e f h → last ≡ []
-    four_end begun one two three e acts first second third last a b d f h (p, w, acted, is, also) (q, x, acted_two, is_two, also_two) (r, y, acted_three, is_three, also_three) (t, z, acted_four, is_four, also_four) =
-        is_four ∙ ends_after_four begun one two three e acts p q r t w x y z acted
-        (subst (λ (g : List Action). Acts one g q x two) is acted_two)
-        (subst (λ (g : List Action). Acts two g r y three) is_two acted_three)
-        (subst (λ (g : List Action). Acts three g t z e) is_three acted_four)
+    by : (list_all is_push acts ≡ false) ⊎ (first ≢ []) → (list_all is_push acts ≡ false) ⊎ (((([] ++ first) ++ second) ++ third) ≢ [])
+    by (inl more) = inl more
+    by (inr more) = inr (some_of first second third more)
 
 abbrev pub is_ok_true : Result Bool EngineError → Bool
 is_ok_true (Ok x) = x
@@ -143,6 +164,10 @@ is_ok_true (Err error) = false
 -- a result that says that there was nothing to do
 pub idle_of : (result : Result Bool EngineError) → result ≡ Ok true → is_ok_true result ≡ true
 idle_of result is = ap is_ok_true is
+
+-- one that says that there was something
+pub idle_of_false : (result : Result Bool EngineError) → result ≡ Ok false → is_ok_true result ≡ false
+idle_of_false result is = ap is_ok_true is
 
 -- only pushes are performed, and they lead to nothing
 abbrev pub HasIdled : Worker → Event → Worker → Written → Written → Type 0
@@ -207,6 +232,21 @@ pub then_fails : (shards : ShardsState) {at_end untouched : Type 0} (s mid : Wor
 then_fails shards s mid e seat event error from to a b d is (idles, silent) (received, read, out, reads, halts, consumed, more) =
     (received, read, out, reads, inr (mid, subst (λ (x : Event). Idles s x mid) is idles, halts), consumed, writes_then a b d [] out silent more)
 
+-- a turn that did something or read something
+abbrev pub HasWorkedInTurn : Type 0 → Type 0 → Worker → Worker → Option (List ℕ) → Option (List ℕ) → Written → Written → Type 0
+HasWorkedInTurn at_end untouched s e from to a b =
+    (read out : List ℕ) × WorksInTurn untouched at_end s read out e × Consumes from to read × AreWritten a b out
+
+pub then_works : {at_end untouched : Type 0} (s mid e : Worker) (event : Event) (from to : Option (List ℕ)) (a b d : Written) → event ≡ first_event (state_of s.session.session.phase) → HasIdled s event mid a b
+    → ((found : Event) × (read out : List ℕ) × IsRead at_end (Some found) read × Reacts mid found out e × Consumes from to read × AreWritten b d out)
+    → HasWorkedInTurn at_end untouched s e from to a d
+then_works s mid e event from to a b d is (idles, silent) (found, read, out, reads, reacts, consumed, more) =
+    (read, out, inr (mid, found, subst (λ (x : Event). Idles s x mid) is idles, reads, reacts), consumed, writes_then a b d [] out silent more)
+
+pub alone_works : {at_end untouched : Type 0} (s e : Worker) (event : Event) (known : Option (List ℕ)) (a b : Written) → event ≡ first_event (state_of s.session.session.phase) → HasWorked s event e a b → untouched → HasWorkedInTurn at_end untouched s e known known a b
+alone_works s e event known a b is (out, works, appended) still =
+    ([], out, inl (still, refl, subst (λ (x : Event). Works s x out e) is works), Consumes-nil known, appended)
+
 -- the first event alone, without using the reader
 pub alone_done : {at_end untouched : Type 0} (s e : Worker) (event : Event) (known : Option (List ℕ)) (a b : Written) → event ≡ first_event (state_of s.session.session.phase) → HasReacted s event e a b → untouched → HasTurned at_end untouched s e known known a b
 alone_done s e event known a b is (out, reacts, appended) still =
@@ -257,6 +297,12 @@ pub none_once_over : {X : Type 0} (P Q : Type 0) (phase : Phase) (event : Event)
 none_once_over {X} P Q phase event result x is refused ok =
     let stops = refused refusals.Ended (λ same. cc same) (refuses_over phase event is) in
     let both : Ok x ≡ Err (errors.Session refusals.Ended) = sym ok ∙ stops.0 in
+    cc both
+
+-- what is refused isn't done
+pub none_if_refused : {X : Type 0} (P Q : Type 0) (result : Result X EngineError) (x : X) (why : SessionError) → (result ≡ Err (errors.Session why)) × P × Q → result ≡ Ok x → ⊥
+none_if_refused {X} P Q result x why stops ok =
+    let both : Ok x ≡ Err (errors.Session why) = sym ok ∙ stops.0 in
     cc both
 
 -- the call on which a turn stops is refused for that cause, and nothing else happens

@@ -1,5 +1,5 @@
 -- A turn of a session.
-use Rattle.std.specs.Prelude.{◌≡◌, ◌⊎◌, ℕ, Bool, true, false, List, [], ◌∷◌, ◌++◌, Option, Some, None}
+use Rattle.std.specs.Prelude.{◌≡◌, ◌≢◌, ◌⊎◌, ℕ, Bool, true, false, List, [], ◌∷◌, ◌++◌, Option, Some, None}
 use Rattle.std.specs.List.{list_all}
 use Rattle.table_types.specs.declared.copies.CopyKind.TheVariants as copies
 use Rattle.session_core.specs.declared.action.Action.{Action}
@@ -17,7 +17,7 @@ use Rattle.session_core.specs.Phases as phases
 use Rattle.table_shards.specs.Receipts.{SeatState}
 use Rattle.table_shards.specs.Rounds.{ShardsState}
 use Rattle.peers_engine.specs.declared.errors.EngineError.{EngineError}
-use Rattle.peers_engine.specs.Reading.{IsUnread}
+use Rattle.peers_engine.specs.Reading.{IsRead, IsUnread}
 use Rattle.peers_engine.specs.Acting.{Acts, EndsAlike, IsOver, IsRefused, Stops, Worker, stands}
 
 -- the event with which a turn begins: it opens a new session, and lets any other teach
@@ -82,6 +82,16 @@ Idles w event e =
     × Acts (stands w mid w.seat) acts answers [] e
     × (asked_in answers ≡ [])
 
+-- an event leaves something to do: the session asks for more than pushes, or these lead to something
+abbrev pub Works : Worker → Event → List ℕ → Worker → Type 0
+Works w event out e =
+    (acts : List Action)
+    × (answers : List (Event × List Action))
+    × (mid : KeptSession)
+    × Steps w.session w.now event acts mid
+    × ((list_all is_push acts ≡ false) ⊎ (asked_in answers ≢ []))
+    × Acts (stands w mid w.seat) (acts ++ asked_in answers) answers out e
+
 -- The session receives an event, if there is one; and the same up to an error, which may come before the event.
 abbrev pub Receives : Worker → Option Event → List ℕ → Worker → Type 0
 Receives w None out e = (out ≡ []) × (e ≡ w)
@@ -98,7 +108,15 @@ TakesTurn untouched w received out e =
     (untouched × (received ≡ None) × Reacts w (first_event (state_of w.session.session.phase)) out e)
     ⊎ ((mid : Worker) × Idles w (first_event (state_of w.session.session.phase)) mid × Receives mid received out e)
 
--- the same, up to an error
+-- The turn's first event leaves something to do, and the turn leaves the reader alone; or it leaves nothing to do, and the turn reads
+-- bytes or the end.
+abbrev pub WorksInTurn : Type 0 → Type 0 → Worker → List ℕ → List ℕ → Worker → Type 0
+WorksInTurn untouched at_end w read out e =
+    (untouched × (read ≡ []) × Works w (first_event (state_of w.session.session.phase)) out e)
+    ⊎ ((mid : Worker) × (event : Event) × Idles w (first_event (state_of w.session.session.phase)) mid
+    × IsRead at_end (Some event) read × Reacts mid event out e)
+
+-- a turn, up to an error
 abbrev pub StopsTurn : ShardsState → Type 0 → Worker → Option Event → EngineError → List ℕ → KeptSession → SeatState → Type 0
 StopsTurn shards untouched w received error out e seat =
     (untouched × (received ≡ None) × Halts shards w (first_event (state_of w.session.session.phase)) error out e seat)

@@ -1,6 +1,6 @@
 //! Turns of a session, and events of its node's own.
 
-ghost use Rattle.std.specs.Prelude.{◌≡◌, ◌≢◌, ◌↔◌, [], true, Ok, Err, IfErr, IfOk, List, OnErr, OnOk, Option, ℕ};
+ghost use Rattle.std.specs.Prelude.{◌≡◌, ◌≢◌, ◌↔◌, [], false, true, Ok, Err, IfErr, IfOk, List, OnErr, OnOk, Option, Some, ℕ};
 ghost use Rattle.std.specs.List.{list_all};
 ghost use Rattle.std.specs.Io.KnownBytes.{Appends, Consumes, IsAtEnd};
 ghost use Rattle.peers_devices.specs.Writing.{AreWritten, Balks, written};
@@ -18,7 +18,7 @@ ghost use Rattle.peers_engine.specs.declared.outcome.Outcome.TheVariants as outc
 ghost use Rattle.peers_engine.specs.declared.turned.Turned.TheVariants as turns;
 ghost use Rattle.peers_engine.specs.Acting.{Acts, Stops, worker};
 ghost use Rattle.peers_engine.specs.Reading.{IsRead};
-ghost use Rattle.peers_engine.specs.Turns.{Breaks, BreaksAt, Halts, HaltsAt, Moves, Receives, Idles, Reacts, StopsTurn, TakesTurn, Turns, first_event, is_push};
+ghost use Rattle.peers_engine.specs.Turns.{Breaks, BreaksAt, Halts, HaltsAt, Moves, Receives, Idles, Reacts, StopsTurn, TakesTurn, Turns, Works, WorksInTurn, first_event, is_push};
 
 use crate::context::Context;
 use crate::doing::act;
@@ -107,6 +107,7 @@ fn react<H: Wait, G: Gate, W: Write + Faults>(
     ensures unread { IfErr result (λ e. e ≢ errors.Read) }
     ensures balks { (sent : ℕ) → result ≡ Err (errors.Write sent) → Balks context.now.failures (W.failed output.new) writes.old writes.new }
     ensures idle { result ≡ Ok true → Idles (worker session.old seat.old context.now.number context.now.moment) event (worker session.new seat.new context.now.number context.now.moment) × AreWritten (written (W.contents output.old) writes.old) (written (W.contents output.new) writes.new) [] }
+    ensures busy { result ≡ Ok false → (out : List ℕ) × Works (worker session.old seat.old context.now.number context.now.moment) event out (worker session.new seat.new context.now.number context.now.moment) × AreWritten (written (W.contents output.old) writes.old) (written (W.contents output.new) writes.new) out }
     ensures refused { (e : SessionError) → e ≢ refusals.Memory → Refuses session.old.session.phase event e
         → (result ≡ Err (errors.Session e)) × (output.new ≡ output.old) × (writes.new ≡ writes.old) }
 {
@@ -137,6 +138,9 @@ fn receive<H: Wait, G: Gate, R: Read + Faults, W: Write + Faults>(
         × AreWritten (written (W.contents output.old) writes.old) (written (W.contents output.new) writes.new) out) }
     ensures nothing { result ≡ Ok true → Consumes (R.remaining input.old) (R.remaining input.new) []
         × (session.new ≡ session.old) × (seat.new ≡ seat.old) × (output.new ≡ output.old) × (writes.new ≡ writes.old) }
+    ensures something { result ≡ Ok false → (event : Event) × (read out : List ℕ) × IsRead (IsAtEnd (R.remaining input.new)) (Some event) read
+        × Reacts (worker session.old seat.old context.now.number context.now.moment) event out (worker session.new seat.new context.now.number context.now.moment)
+        × Consumes (R.remaining input.old) (R.remaining input.new) read × AreWritten (written (W.contents output.old) writes.old) (written (W.contents output.new) writes.new) out }
     ensures failed { IfErr result (λ e. (received : Option Event) × (read out : List ℕ) × IsRead (IsAtEnd (R.remaining input.new)) received read
         × HaltsAt context.now.shards.now (worker session.old seat.old context.now.number context.now.moment) received e out session.new seat.new
         × Consumes (R.remaining input.old) (R.remaining input.new) read
@@ -171,6 +175,8 @@ fn take_turn<H: Wait, G: Gate, R: Read + Faults, W: Write + Faults>(
         × AreWritten (written (W.contents output.old) writes.old) (written (W.contents output.new) writes.new) out) }
     ensures idle { result ≡ Ok true → Idles (worker session.old seat.old context.now.number context.now.moment) (first_event (state_of session.old.session.phase)) (worker session.new seat.new context.now.number context.now.moment)
         × Consumes (R.remaining input.old) (R.remaining input.new) [] × AreWritten (written (W.contents output.old) writes.old) (written (W.contents output.new) writes.new) [] }
+    ensures busy { result ≡ Ok false → (read out : List ℕ) × WorksInTurn (input.new ≡ input.old) (IsAtEnd (R.remaining input.new)) (worker session.old seat.old context.now.number context.now.moment) read out (worker session.new seat.new context.now.number context.now.moment)
+        × Consumes (R.remaining input.old) (R.remaining input.new) read × AreWritten (written (W.contents output.old) writes.old) (written (W.contents output.new) writes.new) out }
     ensures failed { IfErr result (λ e. (received : Option Event) × (read out : List ℕ) × IsRead (IsAtEnd (R.remaining input.new)) received read
         × StopsTurn context.now.shards.now (input.new ≡ input.old) (worker session.old seat.old context.now.number context.now.moment) received e out session.new seat.new
         × Consumes (R.remaining input.old) (R.remaining input.new) read
@@ -208,6 +214,7 @@ fn end<H, G>(context: &Context<H, G>, session: &mut Session, error: EngineError)
 fn outcome(session: &Session, is_idle: bool) -> Outcome
     ensures closed { (result ≡ outcomes.Closed) ↔ (state_of session.now.session.phase ≡ states.Ended) }
     ensures idled { result ≡ outcomes.Idled → is_idle ≡ true }
+    ensures worked { result ≡ outcomes.Worked → is_idle ≡ false }
 {
     if session.state() == State::Ended {
         Outcome::Closed
@@ -231,6 +238,8 @@ pub(crate) fn turn_and_end<H: Wait, G: Gate, R: Read + Faults, W: Write + Faults
     ensures closed { IfOk result (λ outcome. (outcome ≡ outcomes.Closed) ↔ (state_of session.new.session.phase ≡ states.Ended)) }
     ensures idled { result ≡ Ok outcomes.Idled → Idles (worker session.old seat.old context.now.number context.now.moment) (first_event (state_of session.old.session.phase)) (worker session.new seat.new context.now.number context.now.moment)
         × Consumes (R.remaining input.old) (R.remaining input.new) [] × AreWritten (written (W.contents output.old) writes.old) (written (W.contents output.new) writes.new) [] }
+    ensures worked { result ≡ Ok outcomes.Worked → (read out : List ℕ) × WorksInTurn (input.new ≡ input.old) (IsAtEnd (R.remaining input.new)) (worker session.old seat.old context.now.number context.now.moment) read out (worker session.new seat.new context.now.number context.now.moment)
+        × Consumes (R.remaining input.old) (R.remaining input.new) read × AreWritten (written (W.contents output.old) writes.old) (written (W.contents output.new) writes.new) out }
     ensures broken { OnErr result (Breaks context.now.moment session.old session.new) }
     ensures ended { OnErr result (state_of session.new.session.phase ≡ states.Ended) }
     ensures seat { seat.new.number ≡ seat.old.number }
@@ -274,6 +283,7 @@ pub(crate) fn take_and_end<H: Wait, G: Gate, W: Write + Faults>(
     ensures closed { IfOk result (λ outcome. (outcome ≡ outcomes.Closed) ↔ (state_of session.new.session.phase ≡ states.Ended)) }
     ensures idled { result ≡ Ok outcomes.Idled → Idles (worker session.old seat.old context.now.number context.now.moment) event (worker session.new seat.new context.now.number context.now.moment)
         × AreWritten (written (W.contents output.old) writes.old) (written (W.contents output.new) writes.new) [] }
+    ensures worked { result ≡ Ok outcomes.Worked → (out : List ℕ) × Works (worker session.old seat.old context.now.number context.now.moment) event out (worker session.new seat.new context.now.number context.now.moment) × AreWritten (written (W.contents output.old) writes.old) (written (W.contents output.new) writes.new) out }
     ensures broken { OnErr result (BreaksAt context.now.moment event session.old session.new) }
     ensures ended { OnErr result (state_of session.new.session.phase ≡ states.Ended) }
     ensures stopped { IfErr result (λ e. (out : List ℕ) × Halts context.now.shards.now (worker session.old seat.old context.now.number context.now.moment) event e out session.new seat.new

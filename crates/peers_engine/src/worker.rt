@@ -14,7 +14,7 @@ ghost use Rattle.peers_engine.specs.declared.errors.EngineError.TheVariants as e
 ghost use Rattle.peers_engine.specs.declared.outcome.Outcome.TheVariants as outcomes;
 ghost use Rattle.peers_engine.specs.Acting.{worker};
 ghost use Rattle.peers_engine.specs.Reading.{IsRead};
-ghost use Rattle.peers_engine.specs.Turns.{Breaks, BreaksAt, Halts, Idles, Moves, Reacts, StopsTurn, TakesTurn, Turns, first_event};
+ghost use Rattle.peers_engine.specs.Turns.{Breaks, BreaksAt, Halts, Idles, Moves, Reacts, StopsTurn, TakesTurn, Turns, Works, WorksInTurn, first_event};
 
 use crate::context::Context;
 use crate::errors::EngineError;
@@ -61,6 +61,8 @@ impl Worker {
         ensures idled { result ≡ Ok outcomes.Idled
             → Idles (worker self.old.session self.old.seat self.old.number now) (first_event (state_of self.old.session.session.phase)) (worker self.new.session self.new.seat self.new.number now)
             × Consumes (R.remaining input.old) (R.remaining input.new) [] × AreWritten (written (W.contents output.old) writes.old) (written (W.contents output.new) writes.new) [] }
+        ensures worked { result ≡ Ok outcomes.Worked → (read out : List ℕ) × WorksInTurn (input.new ≡ input.old) (IsAtEnd (R.remaining input.new)) (worker self.old.session self.old.seat self.old.number now) read out (worker self.new.session self.new.seat self.new.number now)
+            × Consumes (R.remaining input.old) (R.remaining input.new) read × AreWritten (written (W.contents output.old) writes.old) (written (W.contents output.new) writes.new) out }
         ensures broken { OnErr result (Breaks now self.old.session self.new.session) }
         ensures ended { OnErr result (state_of self.new.session.session.phase ≡ states.Ended) }
         ensures seat { self.new.seat.number ≡ self.old.seat.number }
@@ -119,6 +121,7 @@ impl Worker {
         ensures closed { IfOk result (λ outcome. (outcome ≡ outcomes.Closed) ↔ (state_of self.new.session.session.phase ≡ states.Ended)) }
         ensures idled { result ≡ Ok outcomes.Idled → Idles (worker self.old.session self.old.seat self.old.number now) event (worker self.new.session self.new.seat self.new.number now)
             × AreWritten (written (W.contents output.old) writes.old) (written (W.contents output.new) writes.new) [] }
+        ensures worked { result ≡ Ok outcomes.Worked → (out : List ℕ) × Works (worker self.old.session self.old.seat self.old.number now) event out (worker self.new.session self.new.seat self.new.number now) × AreWritten (written (W.contents output.old) writes.old) (written (W.contents output.new) writes.new) out }
         ensures broken { OnErr result (BreaksAt now event self.old.session self.new.session) }
         ensures ended { OnErr result (state_of self.new.session.session.phase ≡ states.Ended) }
         ensures stopped { IfErr result (λ e. (out : List ℕ) × Halts shards.now (worker self.old.session self.old.seat self.old.number now) event e out self.new.session self.new.seat

@@ -29,7 +29,7 @@ use crate::machine::Machine;
 use crate::pace::{Pace, Task, any_left};
 use crate::phase::Stage;
 use crate::progress::{
-    has_left, inferred, is_ahead, last_number, note_actions, note_copy, note_left, tables_to_leave,
+    has_left, inferred, is_ahead, last_number, note_actions, note_copy, tables_to_leave,
 };
 use crate::receiving::push_control;
 use crate::times;

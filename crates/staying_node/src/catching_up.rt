@@ -51,6 +51,12 @@ impl CatchingUp {
         asking.is_taught()
     }
 
+    /// Returns whether a peer that was asked has shown that it doesn't define all tables as this node does.
+    pub(crate) fn is_incomplete<R: Wait>(&self, rt: &R) -> bool {
+        let asking = self.asking.lock(rt);
+        asking.is_incomplete()
+    }
+
     /// Notes that a session with the peer with this index begins.
     pub(crate) fn begin<R: Wait>(&self, rt: &R, peer: usize) {
         let mut asking = self.asking.lock(rt);

@@ -10,7 +10,7 @@ use std::io::{Error, ErrorKind, Read};
 /// How often a read is tried that the system interrupts.
 const TRIES: u32 = 8;
 
-/// Returns whether a read that failed so may be tried again.
+/// Returns whether a read that failed with an error of this kind may be tried again.
 pub(crate) fn is_pause(kind: ErrorKind) -> bool {
     matches!(
         kind,

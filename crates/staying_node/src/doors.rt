@@ -113,7 +113,7 @@ fn is_news_of<R: Wait>(rt: &R, node: &Node, peer: usize, status: u16) -> bool {
     }
 }
 
-/// Returns what a hello that is refused so says instead of what it should, if that is known.
+/// Returns what a hello that is refused for this reason says instead of what it should, if that is known.
 fn said_by(refusal: HelloRefusal, hello: &[u8]) -> &[u8] {
     match said_in(refusal) {
         SaidPart::Version => said_version(hello),

@@ -67,7 +67,7 @@ fn begins_no_status(head: &[u8]) -> bool
     }
 }
 
-/// Returns why a connection came to no session that ended so, and on which nothing came that says why.
+/// Returns why a connection that ended as `end`, and on which nothing came that says why, came to no session.
 fn silent_cause(end: SessionEnd) -> NoSession
     ensures { result ≡ silent_cause end }
 {
@@ -79,7 +79,7 @@ fn silent_cause(end: SessionEnd) -> NoSession
     }
 }
 
-/// Returns why a connection came to no session that ended so, and on which these bytes came first.
+/// Returns why a connection that ended as `end`, and on which the bytes `head` came first, came to no session.
 pub(crate) fn cause_of(end: SessionEnd, head: &[u8]) -> NoSession
     ensures { result ≡ cause_of end head.now }
 {
@@ -110,7 +110,7 @@ pub(crate) struct FailureCodes {
     pub(crate) write: Option<i32>,
 }
 
-/// Returns what is known of why a session ended so, by which error if one ended it, in words that stand behind "ended".
+/// Returns what is known of why a session ended as `end`, by `error` if one ended it, in words that stand behind "ended".
 pub(crate) fn cause_text(
     alloc: Global,
     end: SessionEnd,
@@ -137,7 +137,7 @@ pub(crate) fn cause_text(
     }
 }
 
-/// Returns what is said of a failed read or write for which the system gave this number.
+/// Returns what the log says of a failed read or write (`what`) for which the system gave the error number `code`.
 fn failure_text(alloc: Global, what: &str, code: i32) -> Result<String, AllocError> {
     let error = Error::from_raw_os_error(code);
     let reason = reason_text(alloc, &error)?;

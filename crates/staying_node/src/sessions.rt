@@ -17,12 +17,12 @@ use crate::status::Totals;
 use crate::tables::{close, forget, forget_all, number_of, reopen};
 use admin_port::{PassedOver, PeerRole};
 use node_core::{
-    Brought, Busy, Failure, NoSession, PeerEvent, Process, ResyncEnd, SessionEnd, Ticks, Traffic,
+    Brought, Busy, Failure, NoSession, PeerEvent, ResyncEnd, SessionEnd, Ticks, Traffic,
 };
 use node_log::pid_of;
 use node_rules::{
     EndNews, EndedConnection, Ending, Learning, Outside, Resync, ResyncsHeard, Teaching, counts_as,
-    end_of_over, is_asked_on, resync_end,
+    end_of_over, resync_end,
 };
 use peers_devices::Writes;
 use peers_engine::{AlwaysOpen, EngineError, Outcome, Worker};
@@ -141,8 +141,6 @@ struct Work<'a, N> {
     offer: Offer,
     /// Whether it was asked on this session.
     has_asked: bool,
-    /// What the peer's hello says of its process, if it sent one.
-    process: Option<Process>,
     /// Whether the peer had defined all tables as the node does by the last tick.
     is_alike: bool,
     ending: Ending,
@@ -193,7 +191,6 @@ impl<'a, N: Wait + Clock> Work<'a, N> {
             is_taught: false,
             offer: Offer::Waits,
             has_asked: false,
-            process: None,
             is_alike: false,
             ending: Ending::new(),
             learning: Learning::new(),
@@ -399,12 +396,10 @@ impl<'a, N: Wait + Clock> Work<'a, N> {
         }
         let version = self.worker.session.version();
         let mut status = self.slot.status(self.rt);
+        let away = now.saturating_sub(status.record.since);
         let process = status.record.begin(now, version, self.pid);
+        status.answers.begin(self.pid.is_some(), process, away);
         drop(status);
-        self.process = match self.pid {
-            Some(_) => Some(process),
-            None => None,
-        };
         self.log(PeerEvent::Connected {
             accepted: self.role == PeerRole::Accept,
             version: version.unwrap_or(Version::V21),
@@ -513,10 +508,11 @@ impl<'a, N: Wait + Clock> Work<'a, N> {
     /// Returns whether the peer may have rows that the node lacks.
     fn may_have_more(&self) -> bool {
         let up_to_date = self.node.catching_up.is_up_to_date(self.rt);
+        let incomplete = self.node.catching_up.is_incomplete(self.rt);
         let status = self.slot.status(self.rt);
-        let was_asked = status.was_asked;
+        let answers = status.answers;
         drop(status);
-        is_asked_on(up_to_date, was_asked, self.process, self.is_alike)
+        answers.is_asked_on(up_to_date, incomplete, self.is_alike)
     }
 
     /// Returns whether the peer was asked on this session and has answered, at a node that is up to date.
@@ -540,9 +536,6 @@ impl<'a, N: Wait + Clock> Work<'a, N> {
         let learned = self.worker.session.counts().learned;
         let heard = heard_in(self.worker.session.controls());
         self.learning.ask(now, learned, heard);
-        let mut status = self.slot.status(self.rt);
-        status.was_asked = true;
-        drop(status);
         self.has_asked = true;
         self.set_state();
         self.log(PeerEvent::Asked);
@@ -583,6 +576,7 @@ impl<'a, N: Wait + Clock> Work<'a, N> {
         self.comparison.end_resync(now, end);
         let mut status = self.slot.status(self.rt);
         status.record.end_learning(end);
+        status.answers.end(end);
         drop(status);
         self.log(PeerEvent::ResyncEnded {
             taught: false,
@@ -757,7 +751,7 @@ impl<'a, N: Wait + Clock> Work<'a, N> {
         self.node.log_peer_event_at(self.rt, self.peer, far, event);
     }
 
-    /// Returns what is known of why the session ended so, in words that stand behind "ended", or nothing if memory runs out. Of one that was
+    /// Returns what is known of why the session ended as `end`, in words that stand behind "ended", or nothing if memory runs out. Of one that was
     /// closed it is why this node closed it, and nothing if the peer did.
     fn cause(&self, end: SessionEnd) -> String {
         let alloc = self.node.alloc;
@@ -786,7 +780,7 @@ impl<'a, N: Wait + Clock> Work<'a, N> {
         }
     }
 
-    /// Notes why an attempt of this node that ended so came to no session, and adds a line to the log if that is news.
+    /// Notes why an attempt of this node that ended as `end` came to no session, and adds a line to the log if that is news.
     fn log_no_session(&self, end: SessionEnd, far: Option<SocketAddr>, cause: &[u8]) {
         let why = cause_of(end, self.from.head());
         if self.is_news(Failure::NoSession(why)) {

@@ -2,7 +2,7 @@
 
 use admin_port::{PassedOver, PeerRole};
 use node_core::{Difference, SessionEnd};
-use node_rules::{PeerRecord, ShortSessions};
+use node_rules::{Answers, PeerRecord, ShortSessions};
 use session_core::Progress;
 use std::alloc::{AllocError, Global};
 use std::net::SocketAddr;
@@ -71,8 +71,8 @@ pub(crate) struct PeerStatus {
     pub(crate) record: PeerRecord,
     /// Which of its sessions it closed soon after they began.
     short: ShortSessions,
-    /// Whether it was ever asked for all rows.
-    pub(crate) was_asked: bool,
+    /// How it answered when it was asked for all rows.
+    pub(crate) answers: Answers,
     /// The far end of the connection, if there is one.
     pub(crate) far: Option<SocketAddr>,
     /// What the sessions that ended did.
@@ -96,7 +96,7 @@ impl PeerStatus {
         PeerStatus {
             record: PeerRecord::new(),
             short: ShortSessions::new(),
-            was_asked: false,
+            answers: Answers::new(),
             far: None,
             before: Totals::none(),
             present: Totals::none(),

@@ -1,12 +1,13 @@
 -- Rows that are counted in parts, in ascending order of number.
-use Rattle.std.proofs.Common.{◌≡◌, ℕ, ◌+◌, ◌<◌, ◌≤◌, true, false, List, [], ◌∷◌, ◌++◌, Some, refl, sym, ap, subst, ◌∙◌, arith, inl, inr}
+use Rattle.std.proofs.Common.{◌≡◌, ℕ, ◌+◌, ◌<◌, ◌≤◌, true, false, ◌||◌, List, [], ◌∷◌, ◌++◌, Some, refl, sym, ap, subst, ◌∙◌, arith, inl, inr}
 use Rattle.std.specs.Prelude.{filter, nat_lt}
+use Rattle.std.specs.List.{list_any}
 use Rattle.std.specs.Option.{unwrap_or}
 use Rattle.std.proofs.lemmas.Bool.{cases_Bool, cond-true, cond-false, ltb-true, ltb-false, lt-ltb, le-ltb}
 use Rattle.table_types.specs.declared.key.Key.{Key}
 use Rattle.table_types.specs.declared.copies.CopyKind.{CopyKind}
 use Rattle.table_types.specs.Rows.{StoredRow}
-use Rattle.table_cell.specs.Pending.{first_number, pending}
+use Rattle.table_cell.specs.Pending.{first_number, is_any_above, pending}
 use Rattle.table_cell.specs.Soundness.{NumbersRise}
 use Rattle.table_cell.proofs.UnackedLaws.{is_above}
 use Rattle.table_cell.proofs.ReachLaws.{chosen_above, is_chosen}
@@ -39,6 +40,16 @@ rest_above a m next (e ∷ es) x rest (first, later) is = elim (cases_Bool (nat_
       let inside = rest_above (e.1.number + 1) m next es x rest later (sym (cond-false (is_above m e) (e ∷ filter (is_above m) es) (filter (is_above m) es) below) ∙ is) in
       let under : nat_lt x.1.number e.1.number ≡ false = le-ltb x.1.number e.1.number (omega (arith, less, inside.0)) in
       (inside.0, inside.1 ∙ sym (cond-false (is_above x.1.number e) (e ∷ filter (is_above x.1.number) es) (filter (is_above x.1.number) es) under))
+]
+
+-- a row that is left shows that there is one above the number
+pub some_above : (m : ℕ) (rows : List (Key × StoredRow)) (x : Key × StoredRow) (rest : List (Key × StoredRow)) → filter (is_above m) rows ≡ x ∷ rest → is_any_above m rows ≡ true
+some_above m [] x rest is = absurd cc
+some_above m (e ∷ es) x rest is = elim (cases_Bool (nat_lt m e.1.number)) [
+  | inl above ↦ ap (λ b. b || list_any (is_above m) es) above
+  | inr below ↦
+      ap (λ b. b || list_any (is_above m) es) below
+      ∙ some_above m es x rest (sym (cond-false (is_above m e) (e ∷ filter (is_above m) es) (filter (is_above m) es) below) ∙ is)
 ]
 
 -- ---- the rows that are still to be counted

@@ -1,5 +1,6 @@
 -- The rows that a session hasn't acknowledged, counted in parts (profile).
-use Rattle.std.specs.Prelude.{◌≡◌, ℕ, List, [], ◌∷◌, ◌++◌, filter, length, Option, None, Some}
+use Rattle.std.specs.Prelude.{◌≡◌, ℕ, Bool, List, [], ◌∷◌, ◌++◌, filter, length, nat_lt, Option, None, Some}
+use Rattle.std.specs.List.{list_any}
 use Rattle.table_types.specs.declared.key.Key.{Key}
 use Rattle.table_types.specs.declared.copies.CopyKind.{CopyKind}
 use Rattle.table_types.specs.Rows.{StoredRow}
@@ -24,3 +25,7 @@ abbrev pub Counts : CopyKind → ℕ → ℕ → ℕ → List (Key × StoredRow)
 Counts kind bound number now rows p =
     (counted : List (Key × StoredRow)) × (counted ++ left_above kind bound p.next now rows ≡ pending kind bound number now rows)
     × (p.count ≡ length counted) × (p.first ≡ first_number counted)
+
+-- whether one of the rows has a greater number
+abbrev pub is_any_above : ℕ → List (Key × StoredRow) → Bool
+is_any_above number rows = list_any (λ e. nat_lt number e.1.number) rows

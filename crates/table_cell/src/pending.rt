@@ -1,9 +1,9 @@
 //! Counting the rows that a session hasn't acknowledged.
 
-ghost use Rattle.std.specs.Prelude.{◌≡◌, ◌≤◌, ◌<◌, IfSome, Some, not};
+ghost use Rattle.std.specs.Prelude.{◌≡◌, ◌≤◌, ◌<◌, IfSome, Some, not, true};
 ghost use Rattle.std.specs.Option.{unwrap_or};
 ghost use Rattle.table_cell.specs.Machine.{has_room, progress_of};
-ghost use Rattle.table_cell.specs.Pending.{Counts};
+ghost use Rattle.table_cell.specs.Pending.{Counts, is_any_above};
 ghost use Rattle.table_cell.specs.Soundness.{NumbersRise};
 
 use crate::cell::TableCell;
@@ -37,7 +37,9 @@ impl Table {
         requires rising { NumbersRise 1 self.now.next self.now.rows }
         requires some { 1 ≤ most }
         ensures counts { Counts kind bound number now self.now.rows result }
+        ensures few { result.count ≤ most }
         ensures onward { IfSome result.next (λ next. number < next) }
+        ensures left { IfSome result.next (λ next. is_any_above next self.now.rows ≡ true) }
     {
         let mut seen = self.copy_start(kind, number, now);
         let mut looked = 0;
@@ -104,7 +106,9 @@ impl TableCell {
     ) -> Pending
         requires { 1 ≤ most }
         ensures counts { Counts kind bound number now self.now.state.rows result }
+        ensures few { result.count ≤ most }
         ensures onward { IfSome result.next (λ next. number < next) }
+        ensures left { IfSome result.next (λ next. is_any_above next self.now.state.rows ≡ true) }
     {
         self.table.pending_above(number, bound, kind, now, most)
     }

@@ -1,4 +1,4 @@
-//! A world of `t1` and one session: what steps leave in the lists of the session, on its way, at its learner, and in what the teacher
+//! Worlds of `t1` and one session: what steps leave in the lists of the session, on its way, at its learner, and in what the teacher
 //! knows of that.
 
 ghost use Rattle.std.specs.Prelude.{◌≡◌, IfSome, length};
@@ -11,16 +11,18 @@ use table_types::{
     Batch, Cell, Change, CopyKind, DataType, Key, Moment, Row, Update, Value, Version,
 };
 use tests_play_data::known_states::{are_same, known_of_t1};
-use tests_play_data::parts::{T1, definition};
+use tests_play_data::parts::{T1, UpdateParts, definition, update};
 
 /// The number of the session.
 const SESSION: u32 = 1;
 
 /// A step of `t1` and session 1 at the least moment.
-#[derive(Clone, Copy, Debug)]
+#[derive(Clone, Copy)]
 pub enum Short {
     /// The teacher adds to the count of a key.
     Track(u32, u64),
+    /// The teacher's table learns an update.
+    Learn(&'static UpdateParts),
     Copy(CopyKind),
     Teach,
     /// This many bytes arrive at the learner.
@@ -28,6 +30,9 @@ pub enum Short {
     /// This many bytes arrive at the teacher.
     ToTeacher(usize),
     Ack,
+    /// The connection of this session breaks.
+    Break(u32),
+    Reopen,
 }
 
 /// An update of `t1`: its number, its life, its key and its count.
@@ -55,6 +60,15 @@ pub struct Seen {
 /// Steps, and what there is after them.
 pub type Part = (&'static [Short], Seen);
 
+/// Steps in parts, in a new world.
+pub struct Story {
+    /// The version of the session.
+    pub version: Version,
+    /// How often 1 was added to key 1 before the session was opened.
+    pub added: u32,
+    pub parts: &'static [Part],
+}
+
 /// Makes the step that delivers bytes.
 fn deliver(way: Way, count: usize) -> Step {
     Step::Deliver {
@@ -66,13 +80,18 @@ fn deliver(way: Way, count: usize) -> Step {
 }
 
 /// Makes a step.
-fn step_of(short: Short) -> Step {
+fn step_of(alloc: Global, short: Short) -> Option<Step> {
     let (session, moment) = (SESSION, Moment::least());
-    match short {
+    Some(match short {
         Short::Track(key, more) => Step::Track {
             table: T1.id,
             key: Key::Int(key),
             change: Change::Add(DataType::Gpc0, more),
+            moment,
+        },
+        Short::Learn(parts) => Step::Learn {
+            session,
+            update: update(alloc, parts)?,
             moment,
         },
         Short::Copy(kind) => Step::Copy {
@@ -86,14 +105,16 @@ fn step_of(short: Short) -> Step {
         Short::ToLearner(count) => deliver(Way::ToLearner, count),
         Short::ToTeacher(count) => deliver(Way::ToTeacher, count),
         Short::Ack => Step::Ack { session },
-    }
+        Short::Break(session) => Step::Break { session },
+        Short::Reopen => Step::Reopen { session },
+    })
 }
 
 /// Makes the steps one after another.
-fn after(world: World, steps: &[Short]) -> Option<World> {
+fn after(alloc: Global, world: World, steps: &[Short]) -> Option<World> {
     let mut world = world;
     for short in steps {
-        let step = step_of(*short);
+        let step = step_of(alloc, *short)?;
         world = run(world, &[step]).ok()?;
     }
     Some(world)
@@ -194,32 +215,55 @@ fn is_seen(alloc: Global, world: &World, seen: &Seen) -> Option<bool> {
     )
 }
 
-/// Makes `t1`.
-fn cell(alloc: Global) -> Option<TableCell>
-    ensures { IfSome result (λ cell. length cell.state.sessions ≡ 0) }
+/// Adds 1 to key 1 of `t1`.
+fn add_one(cell: &mut TableCell) -> Option<()>
+    ensures { IfSome result (λ done. length cell.new.state.sessions ≡ length cell.old.state.sessions) }
 {
-    TableCell::new(alloc, definition(alloc, &T1)?, 1_000_000, false, 1).ok()
+    let change = Change::Add(DataType::Gpc0, 1);
+    let _reply = cell.track(0, Key::Int(1), change, Moment::least()).ok()?;
+    Some(())
 }
 
-/// Makes a world of `t1` and a session of version 2.1.
-fn world(alloc: Global) -> Option<World> {
-    let cell = cell(alloc)?;
+/// Makes `t1`, and adds 1 to its key 1 this often.
+fn cell_after(alloc: Global, added: u32) -> Option<TableCell>
+    ensures { IfSome result (λ cell. length cell.state.sessions ≡ 0) }
+{
+    let mut cell = TableCell::new(alloc, definition(alloc, &T1)?, 1_000_000, false, 1).ok()?;
+    for _ in 0..added {
+        add_one(&mut cell)?;
+    }
+    Some(cell)
+}
+
+/// Makes the world of a story, before its steps.
+fn world(alloc: Global, story: &Story) -> Option<World> {
+    let cell = cell_after(alloc, story.added)?;
     if cell.room() < 1 {
         return None;
     }
     let cells = vec![in alloc; cell].ok()?;
-    World::new(alloc, cells, vec![in alloc; Version::V21].ok()?).ok()
+    World::new(alloc, cells, vec![in alloc; story.version].ok()?).ok()
 }
 
-/// Makes steps in parts, in a new world. Returns the index of the first part after which something else is there; `None` if memory runs
-/// out.
-pub fn failing_part(alloc: Global, parts: &[Part]) -> Option<Option<usize>> {
-    let mut world = world(alloc)?;
-    for (place, (steps, seen)) in parts.iter().enumerate() {
-        world = after(world, *steps)?;
+/// Returns the index of the first part after which something else is there; `None` if memory runs out.
+fn failing_part(alloc: Global, story: &Story) -> Option<Option<usize>> {
+    let mut world = world(alloc, story)?;
+    for (place, (steps, seen)) in story.parts.iter().enumerate() {
+        world = after(alloc, world, *steps)?;
         if !is_seen(alloc, &world, seen)? {
             return Some(Some(place));
         }
     }
     Some(None)
+}
+
+/// Plays each story in a new world. Returns the index of the first that fails, and that of its part.
+pub fn first_failing(alloc: Global, stories: &[Story]) -> Option<(usize, Option<usize>)> {
+    for (place, story) in stories.iter().enumerate() {
+        let failing = failing_part(alloc, story);
+        if failing != Some(None) {
+            return Some((place, failing.flatten()));
+        }
+    }
+    None
 }

@@ -1,7 +1,9 @@
 -- What `learn` prints of a scene (profile).
 use Rattle.std.specs.Prelude.{◌≡◌, ◌≢◌, ◌++◌, ℕ, List, Result, Ok, Err, Some, flat_map}
 use Rattle.std.specs.List.Sorted.{IsNonDecreasingBy, IsPermutation}
+use Rattle.table_types.specs.Rosters.{roster_fault}
 use Rattle.table_types.specs.Tables.{Definition}
+use Rattle.table_types.specs.declared.roster.RosterError.{RosterError}
 use Rattle.learner.specs.declared.fault.Fault.{Fault}
 use Rattle.learner.specs.declared.fault.Fault.TheVariants as faults
 use Rattle.learner.specs.Intake.{due_acks}
@@ -29,6 +31,10 @@ acks_text l = flat_map ack_line (due_acks l.intake)
 -- the roster is `tables` in ascending order of id
 abbrev pub AreInRisingId : List Definition → List Definition → Type 0
 AreInRisingId tables roster = IsPermutation tables roster × IsNonDecreasingBy (λ d. d.id) roster
+
+-- in that order the tables make no roster, for this reason
+abbrev pub MakeNoRoster : List Definition → RosterError → Type 0
+MakeNoRoster tables error = (sorted : List Definition) × AreInRisingId tables sorted × (roster_fault sorted ≡ Some error)
 
 -- At the scene's moment, the scene's stream is fed to a new learner of the scene's tables in ascending order of id: it returns
 -- `answer`, and is then `l`.

@@ -7,7 +7,7 @@ ghost use Rattle.learner.specs.Learning.{Learning};
 ghost use Rattle.node_text.specs.Rows.{row_line};
 ghost use Rattle.node_text.specs.declared.scenes.Scene.{Scene};
 ghost use Rattle.text_commands.specs.Endings.{IsEarly, line_of};
-ghost use Rattle.text_commands.specs.Learning.{AreInRisingId, EndsLearn, IsLearned, IsPrinted, acks_text, rows_text};
+ghost use Rattle.text_commands.specs.Learning.{AreInRisingId, EndsLearn, IsLearned, IsPrinted, MakeNoRoster, acks_text, rows_text};
 
 use crate::endings::Ending;
 use learner::{Fault, Learner};
@@ -122,7 +122,8 @@ fn fed(alloc: Global, scene: Scene) -> Result<(Learner, Result<usize, Fault>), E
 
 /// Returns the roster of `tables` in ascending order of id.
 pub fn rising_roster(mut tables: Vec<TableDef>) -> Result<Roster, RosterError>
-    ensures { IfOk result (λ roster. AreInRisingId tables.items roster) }
+    ensures rising { IfOk result (λ roster. AreInRisingId tables.items roster) }
+    ensures refused { IfErr result (MakeNoRoster tables.items) }
 {
     tables.sort_unstable_by_key(|table| table.id());
     let roster = Roster::new(tables)?;

@@ -6,7 +6,7 @@ use Rattle.session_core.specs.Sessions.{Refuses}
 use Rattle.peers_engine.specs.declared.errors.EngineError.{EngineError}
 use Rattle.peers_engine.specs.Acting.{worker}
 use Rattle.peers_engine.specs.Turns.{first_event}
-use Rattle.peers_engine.proofs.TurnLaws.{alone_fails, idle_turn, stops_with_cause, then_done, then_fails}
+use Rattle.peers_engine.proofs.TurnLaws.{alone_fails, alone_works, idle_turn, stops_with_cause, then_done, then_fails, then_works}
 use Rattle.peers_engine.proofs.turning.take_turn.Goals as goal
 
 pub returns-then-branch-clause-done : goal.returns-then-branch-clause-done
@@ -42,6 +42,19 @@ returns-then-branch-clause-idle g c = λ idle.
     (written (g.W.Write.contents c.args.output.now) c.args.writes.now) (written (g.W.Write.contents c.react.new.output) c.react.new.writes) (written (g.W.Write.contents c.receive.new.output) c.receive.new.writes)
     (c.first_event-event.ensures ∙ ap first_event c.state.ensures) (c.react.ensures.idle (c.in_ok-react.was ∙ ap Ok c.if-branch.true))
     (rw (nothing.1, nothing.2) refl) (rw (nothing.3, nothing.4) refl) nothing.0
+
+pub returns-then-branch-clause-busy : goal.returns-then-branch-clause-busy
+returns-then-branch-clause-busy g c = λ busy.
+    then_works (worker c.args.session.now c.args.seat.now c.args.context.now.number c.args.context.now.moment) (worker c.react.new.session c.react.new.seat c.args.context.now.number c.args.context.now.moment) (worker c.receive.new.session c.receive.new.seat c.args.context.now.number c.args.context.now.moment) c.first_event-event.result
+    (g.R.Read.remaining c.args.input.now) (g.R.Read.remaining c.receive.new.input)
+    (written (g.W.Write.contents c.args.output.now) c.args.writes.now) (written (g.W.Write.contents c.react.new.output) c.react.new.writes) (written (g.W.Write.contents c.receive.new.output) c.receive.new.writes)
+    (c.first_event-event.ensures ∙ ap first_event c.state.ensures) (c.react.ensures.idle (c.in_ok-react.was ∙ ap Ok c.if-branch.true)) (c.receive.ensures.something busy)
+
+pub returns-else-branch-clause-busy : goal.returns-else-branch-clause-busy
+returns-else-branch-clause-busy g c = λ busy.
+    alone_works (worker c.args.session.now c.args.seat.now c.args.context.now.number c.args.context.now.moment) (worker c.react.new.session c.react.new.seat c.args.context.now.number c.args.context.now.moment) c.first_event-event.result (g.R.Read.remaining c.args.input.now)
+    (written (g.W.Write.contents c.args.output.now) c.args.writes.now) (written (g.W.Write.contents c.react.new.output) c.react.new.writes)
+    (c.first_event-event.ensures ∙ ap first_event c.state.ensures) (c.react.ensures.busy (c.in_ok-react.was ∙ ap Ok c.if-branch.false)) refl
 
 pub returns-in_err-react-clause-refused : goal.returns-in_err-react-clause-refused
 returns-in_err-react-clause-refused g c = λ why some is.

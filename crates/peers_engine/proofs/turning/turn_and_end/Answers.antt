@@ -4,7 +4,7 @@ use Rattle.peers_devices.specs.Writing.{written}
 use Rattle.peers_engine.specs.declared.errors.EngineError.{EngineError}
 use Rattle.peers_engine.specs.Acting.{worker}
 use Rattle.peers_engine.specs.Turns.{first_event}
-use Rattle.peers_engine.proofs.TurnLaws.{broken, over_stops, stopped, stops_with_cause, turned}
+use Rattle.peers_engine.proofs.TurnLaws.{broken, none_once_over, over_stops, stopped, stops_with_cause, turned}
 use Rattle.peers_engine.proofs.turning.turn_and_end.Goals as goal
 
 pub returns-in-Err-clause-broken : goal.returns-in-Err-clause-broken
@@ -27,6 +27,13 @@ returns-in-Ok-clause-run g c =
     (g.R.Read.remaining c.args.input.now) (g.R.Read.remaining c.take_turn.new.input)
     (written (g.W.Write.contents c.args.output.now) c.args.writes.now) (written (g.W.Write.contents c.take_turn.new.output) c.take_turn.new.writes)
     c.in-Ok.ensures.done
+
+pub returns-in-Ok-clause-over : goal.returns-in-Ok-clause-over
+returns-in-Ok-clause-over g c = λ over.
+    let phase = c.args.session.now.session.phase in
+    absurd (none_once_over (c.take_turn.new.input ≡ c.args.input.now)
+    ((c.take_turn.new.output ≡ c.args.output.now) × (c.take_turn.new.writes ≡ c.args.writes.now)) phase (first_event (state_of phase)) c.take_turn.result c.in-Ok.is_idle
+    over (λ why some is. let refused = c.take_turn.ensures.refused why some is in (refused.0, refused.1, (refused.2, refused.3))) c.in-Ok.is)
 
 pub returns-in-Err-clause-over : goal.returns-in-Err-clause-over
 returns-in-Err-clause-over g c = λ over.

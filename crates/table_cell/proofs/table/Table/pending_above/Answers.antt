@@ -8,7 +8,7 @@ use Rattle.table_cell.specs.Machine.{TableState, is_unacked}
 use Rattle.table_cell.specs.Pending.{first_number, pending}
 use Rattle.table_cell.proofs.UnackedLaws.{is_above}
 use Rattle.table_cell.proofs.ReachLaws.{is_chosen, reach_same}
-use Rattle.table_cell.proofs.PendingLaws.{end_pending, first_with, none_pending, one_pending, rest_above}
+use Rattle.table_cell.proofs.PendingLaws.{end_pending, first_with, none_pending, one_pending, rest_above, some_above}
 use Rattle.table_cell.proofs.table.Table.pending_above.Goals as goal
 
 pub loop-row-init : goal.loop-row-init
@@ -79,3 +79,7 @@ returns-clause-counts c =
     let none : pending c.args.kind c.args.bound c.loop-row.seen c.args.now c.args.self.now.rows ≡ [] =
     end_pending c.args.kind c.args.bound c.loop-row.seen c.args.now c.args.self.now.rows (sym c.loop-row.invariant.left ∙ c.in-None.ensures.steps.0) in
     (counted, ap (λ (l : List (Key × StoredRow)). counted ++ l) (sym none) ∙ all, count, first)
+
+pub returns-then-looked-most-clause-left : goal.returns-then-looked-most-clause-left
+returns-then-looked-most-clause-left c =
+    some_above c.loop-row.seen c.args.self.now.rows (c.in-Some.field-0-0.now, c.in-Some.row.now) c.next.new.self (sym c.loop-row.invariant.left ∙ c.in-Some.ensures.steps)
