@@ -330,7 +330,7 @@ def reply(line, what='a reply'):
 LEVELS = {'3': 'error', '4': 'warn', '6': 'info', '7': 'debug'}
 # With a time and a level, or with the level's number as systemd's journal reads it; then the event, its keys, and a sentence.
 LINE = re.compile(r'(?:(?P<time>[0-9]{4}-[01][0-9]-[0-3][0-9]T[0-2][0-9]:[0-5][0-9]:[0-5][0-9]\.[0-9]{3}Z) (?P<level>error|warn|info|debug) '
-                  r'|<(?P<number>[3467])>)event=(?P<event>[a-z-]+)(?P<keys>(?: [a-z]+=[!-~]+)*): (?P<sentence>[ -~]+)')
+                  r'|<(?P<number>[3467])>)event=(?P<event>[a-z-]+)(?P<keys>(?: [a-z_]+=[!-~]+)*): (?P<sentence>[ -~]+)')
 
 # What a line says: its time, if it has one, its level, its event, the values of its keys, and its sentence.
 Said = namedtuple('Said', 'time level event keys sentence')

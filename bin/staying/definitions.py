@@ -80,6 +80,7 @@ def definitions_differ(trial):
         require(' what=%s: ' % what in line, 'the log says what differs', line)
         sentence = line.split(': ', 1)[1]
         require(theirs in sentence and ours in sentence.split(theirs, 1)[1], 'the log has both sides', line)
+        require('start this node again' in sentence, 'the log has what repairs it', line)
     mismatched(node, {name: what for name, (what, _, _) in SIDES.items()})
     wait(lambda: node.ask('show rows') == ['row 6 - 7 1'], 3, 'only the row of the table that is alike', lambda: node.ask('show rows'))
     far.gets_ack(ALIKE.id, 1)
@@ -104,6 +105,7 @@ def differences_once(trial):
     require('http_req_rate(15s)' in says(node, 'mismatch', 2)[1], 'the log has the other period', node.said())
     define(far, PERIODS._replace(periods=((10, 20000),)))
     mismatched(node, {})
+    equal(tables_in(says(node, 'alike', 1)), ['periods'], 'the table that both define alike now')
     define(far, PERIODS)
     require('http_req_rate(10s)' in says(node, 'mismatch', 3)[2], 'the log has the first period again', node.said())
 
@@ -145,7 +147,9 @@ def lacking_tables(trial):
     counted(node, 'unshared', 0)
     counted(node, 'undefined', len(TABLES) - 1)
     far = connected(trial, node)
-    define(far, ALIKE, PERIODS)
+    equal(lines(node, 'alike'), [], 'tables that came to be alike')
+    define(far, ALIKE, PERIODS._replace(periods=((10, 20000),)))
+    equal(tables_in(says(node, 'alike', 1)), ['periods'], 'the table that was not defined, and is defined alike')
     counted(node, 'undefined', len(TABLES) - 2)
     define(far, *DIFFERENT, FURTHER)
     counted(node, 'undefined', 0)

@@ -83,11 +83,16 @@ def log(trial):
     begun, = node.logged('connected')
     matches(r'127\.0\.0\.1:[0-9]+', begun.keys['address'], 'the address')
     equal((begun.level, begun.keys['role'], begun.keys['protocol']), ('info', 'accept', '2.1'), 'the beginning of the session')
+    ended, = node.logged('ended')
+    between(190, int(ended.keys['lasted_ms']), 10_000, 'ms of the session')
     learned, taught = node.logged('resync-ended')
     equal([(said.keys['role'], said.keys['end'], said.keys['rows']) for said in (learned, taught)],
           [('learner', 'finished', '2'), ('teacher', 'finished', '2')], 'the resyncs')
     between(190, int(learned.keys['ms']), 2000, 'ms of the resync')
     equal({said.keys.get('address') for said in node.logged(peer='b') if said.event != 'up-to-date'}, {begun.keys['address']}, 'addresses')
+    time.sleep(1)
+    connected(trial, node)
+    between(900, int(node.logs('connected', 2)[1].keys['away_ms']), 4000, 'ms without a session')
 
 
 @check
@@ -127,6 +132,22 @@ def log_of_a_table_left(trial):
     far.close()
     node.logs('ended', peer='b')
     equal([(said.level, said.keys['table']) for said in node.logged('left', peer='b')], [('warn', 't1')], 'lines about tables left')
+
+
+@check
+def log_of_a_stop_with_a_table_left(trial):
+    """at a stop the log names a table that was left, whose rows the peer hasn't acknowledged, although the session isn't cut"""
+    node, far = with_b(trial, manners=Manners(acks='none'), tables=(T1,))
+    node.ask('track t1 7 add gpc0 1')
+    wait(lambda: node.shared('b', 't1')['left'] == 'yes', 5, 'the table is left')
+    node.stop()
+    far.ends(1)
+    lacking, = node.logged('unacknowledged', peer='b')
+    equal((lacking.level, lacking.keys['table']), ('warn', 't1'), 'the line about the table')
+    ended, = node.logged('ended', peer='b')
+    require(ended.sentence.endswith('because it is stopping'), 'the session was not cut', ended.sentence)
+    stopped, = node.logged('stopped')
+    equal((stopped.level, stopped.keys['cut']), ('info', '0'), 'the last line')
 
 
 @check
@@ -175,7 +196,8 @@ def log_of_a_peer_that_is_not_there(trial):
     equal({said.keys['address'] for said in (first, second)}, {address(port)}, 'addresses')
     equal((first.level, second.level), ('info', 'warn'), 'levels')
     require('Connection refused' in second.sentence, 'the reason:', second.sentence)
-    require('"peer b .." has another port' in second.sentence, 'what repairs it:', second.sentence)
+    require('"peer b .."' in second.sentence and 'has another port' in second.sentence, 'what repairs it:', second.sentence)
+    require('a firewall rejects' in second.sentence, 'what else it may be:', second.sentence)
 
 
 def full_port(trial):
@@ -295,6 +317,20 @@ def log_of_short_sessions(trial):
         equal(len(node.logged('short-sessions')), int(times > 2), 'lines about short sessions after %d' % times)
     said, = node.logged('short-sessions', peer='b')
     equal((said.level, said.keys['count'], 'by the name n there' in said.sentence), ('warn', '3', True), 'the line: ' + said.sentence)
+
+
+@check
+def log_of_two_of_one_name(trial):
+    """three sessions that further connections of the peer replace soon after they began are followed by the same warning"""
+    node = node_of_b(trial)
+    connected(trial, node)
+    for times in range(1, 4):
+        connected(trial, node)
+        node.logs('ended', times, peer='b', end='replaced')
+        time.sleep(0.3)
+        equal(len(node.logged('short-sessions')), int(times > 2), 'lines about short sessions after %d' % times)
+    said, = node.logged('short-sessions', peer='b')
+    require('two processes may call themselves b' in said.sentence, 'the line names the cause', said.sentence)
 
 
 @check

@@ -624,14 +624,21 @@ def stop_waits_for_the_slow(trial):
     equal(node.child.wait(PATIENCE), 0, 'the status')
     between(1.5, time.monotonic() - begun, 4, 'seconds until it has ended')
     equal(len(far.rows('t1')), 600, 'rows that came')
+    equal(node.logged('unacknowledged'), [], 'lines about rows that came')
 
 
 @check
 def stop_waits_3_seconds(trial):
-    """stop waits 3 s for a peer that doesn't acknowledge, and no longer"""
+    """stop waits 3 s for a peer that doesn't acknowledge, and no longer, and the log names the peer and the table"""
     node, far = behind(trial)
     between(2.9, node.stop(), 5, 'seconds until it has ended')
     far.ends(1)
+    lacking, = node.logged('unacknowledged', peer='b')
+    equal((lacking.level, lacking.keys['table']), ('warn', 't1'), 'the line about the table')
+    ended, = node.logged('ended', peer='b')
+    require('before it knew that the peer had all rows' in ended.sentence, 'the end names the cause', ended.sentence)
+    stopped, = node.logged('stopped')
+    equal((stopped.level, stopped.keys['cut']), ('warn', '1'), 'the last line')
 
 
 @check

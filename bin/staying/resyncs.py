@@ -409,6 +409,23 @@ def asks_another_process(trial):
 
 
 @check
+def asks_another_process_after_a_partial_end(trial):
+    """a node whose peer lacks a table and answered partially asks another process of it"""
+    node = node_of_b(trial, tables=(T1, T2))
+    far = connected(trial, node, 'b', KEEPS_QUIET)
+    far.gets(REQUEST, 2)
+    far.send(definition(table(11, 't1')) + PARTIAL)
+    far.gets(CONFIRMED, 2)
+    up_to_date(node)
+    for pid, requests in ((1, 0), (2, 1)):
+        far.close()
+        far = connected(trial, node, 'b', KEEPS_QUIET, pid=pid)
+        far.send(definition(table(11, 't1')))
+        time.sleep(0.7)
+        equal(far.count(REQUEST), requests, 'requests to a process with the pid %d' % pid)
+
+
+@check
 def asks_who_is_back_soon(trial):
     """a node that lacks rows asks a peer that it connects to again once that is back, on each session until it has answered"""
     door, node = node_with_door(trial, KEEPS_QUIET, tables=(T1, T2))

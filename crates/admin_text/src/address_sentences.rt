@@ -541,7 +541,7 @@ pub(crate) fn path_sentence(alloc: Global, fault: PathFault) -> Result<String, A
         ),
         PathFault::Nul => format!(in alloc; "the path of a socket can't contain a NUL"),
         PathFault::Long(length) => format!(in alloc;
-            "the path of a socket has at most 107 bytes, not {length}"
+            "the path of a socket has at most 107 bytes, not {length}; use a shorter path"
         ),
     }
 }

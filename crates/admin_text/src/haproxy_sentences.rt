@@ -34,8 +34,8 @@ pub(crate) fn haproxy_sentence(
                 "this is HAProxy's form; write \"table {id} {table}\"{hint}{settings}"
             )
         }
-        None => match unshared_in(word_behind(words, b"store")) {
-            Some((name, instead)) => unshared_sentence(alloc, name, instead),
+        None => match unshared_sentence(alloc, word_behind(words, b"store"))? {
+            Some(sentence) => Ok(sentence),
             None => {
                 let form = LineKind::Table.form();
                 format!(in alloc; "this is HAProxy's form; write {form}")
@@ -44,29 +44,40 @@ pub(crate) fn haproxy_sentence(
     }
 }
 
-/// Returns the data type that `word` begins with and the ones to write instead, if it is one of HAProxy's that can't be shared.
-pub(crate) fn unshared_in(word: &[u8]) -> Option<(&'static str, &'static str)> {
-    let (name, _) = cut(word, b'(')?;
-    match name {
-        b"gpc" => Some(("gpc(N)", "gpc0 or gpc1")),
-        b"gpt" => Some(("gpt(N)", "gpt0")),
-        b"gpc_rate" => Some(("gpc_rate(N,TIME)", "gpc0_rate or gpc1_rate")),
-        _ => None,
-    }
+/// Returns the sentence about the data type that `word` begins with, if it is one of HAProxy's that can't be shared.
+pub(crate) fn unshared_sentence(alloc: Global, word: &[u8]) -> Result<Option<String>, AllocError> {
+    let (name, instead) = match cut(word, b'(') {
+        Some((b"gpc", _)) => ("gpc(N)", "gpc0 or gpc1"),
+        Some((b"gpt", _)) => ("gpt(N)", "gpt0"),
+        Some((b"gpc_rate", behind)) => return Ok(Some(rates_sentence(alloc, behind)?)),
+        _ => return Ok(None),
+    };
+    let sentence = format!(in alloc;
+        "this program doesn't share {name}: use {instead} here and in HAProxy's configuration, or leave this table out"
+    )?;
+    Ok(Some(sentence))
 }
 
-/// Returns the sentence about a data type that can't be shared.
-pub(crate) fn unshared_sentence(
-    alloc: Global,
-    name: &str,
-    instead: &str,
-) -> Result<String, AllocError> {
+/// Returns the sentence about rates that can't be shared, from what comes behind `gpc_rate(`.
+fn rates_sentence(alloc: Global, behind: &[u8]) -> Result<String, AllocError> {
+    let (time, number) = match rates_period(behind) {
+        Some((time, number)) => (text_of(time), number),
+        None => ("10s", 10_000),
+    };
     format!(in alloc;
-        "this program doesn't share {name}: use {instead} here and in HAProxy's configuration, or leave this table out"
+        "this program doesn't share gpc_rate(N,TIME): write gpc0_rate:{number} or gpc1_rate:{number} here, and store gpc0_rate({time}) or gpc1_rate({time}) in HAProxy's configuration, or leave this table out"
     )
 }
 
-/// Returns the id and the name of a table with these words, as far as they give them, and what is said of both.
+/// Returns what comes behind the first `,` and before `)`, and how many milliseconds HAProxy takes it for, if a rate may have them for a
+/// period.
+fn rates_period(behind: &[u8]) -> Option<(&[u8], u64)> {
+    let (inner, _) = cut(behind, b')')?;
+    let (_, time) = cut(inner, b',')?;
+    Some((time, period_in(time)?))
+}
+
+/// Returns the id and the name of a table with these words, as far as they give them, and a hint about both.
 fn parts_like<'a>(
     lines: &[Statement<'_>],
     words: &[&'a [u8]],

@@ -235,7 +235,7 @@ fn peer_form_sentence(alloc: Global, words: &[&[u8]]) -> Result<String, AllocErr
         let network = shown(words, 3);
         format!(in alloc; "{surplus} is not allowed here; for a network write \"from {network}\"")
     } else {
-        format!(in alloc; "{surplus} is not allowed here; write {form}")
+        format!(in alloc; "{surplus} is not allowed here; leave it out: the form is {form}")
     }
 }
 
@@ -313,13 +313,13 @@ pub(crate) fn repeated_sentence(
         Some(LineKind::Log) => "the level",
         _ => "this",
     };
-    let all = all_sentence(alloc, lines, words)?;
-    let all = all.as_str();
-    format!(in alloc; "{what} is already given on line {line}; keep one of the two lines{all}")
+    let more = more_sentence(alloc, lines, words)?;
+    let more = more.as_str();
+    format!(in alloc; "{what} is already given on line {line}; keep one of the two lines{more}")
 }
 
-/// Returns how to listen at all addresses of the host, if the line with these words may.
-fn all_sentence(
+/// Returns how to listen at more than one address, if the line with these words may: at all addresses of the host, or at a socket too.
+fn more_sentence(
     alloc: Global,
     lines: &[Statement<'_>],
     words: &[&[u8]],
@@ -337,6 +337,12 @@ fn all_sentence(
                 ),
                 None => Ok(String::new(alloc)),
             }
+        }
+        Some(LineKind::Admin) if line_of(lines, LineKind::Socket).is_none() => {
+            String::from_str(
+                alloc,
+                "; a Unix socket may stand beside an address, as in \"admin unix:/run/digbaro/admin.sock\"",
+            )
         }
         _ => Ok(String::new(alloc)),
     }

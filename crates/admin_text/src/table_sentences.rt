@@ -39,7 +39,7 @@ pub(crate) fn table_sentence(
         TableFault::TakenName(line) => {
             let name = shown(words, 2);
             format!(in alloc;
-                "line {line} already defines {name}; delete one of the two lines, or merge them into one with all data types"
+                "line {line} already defines {name}; if this is another table, write its own name here; if it is the same one, delete one of the two lines, or merge them into one with all data types and the EXPIRE of HAProxy's table"
             )
         }
         TableFault::Keys if is_word_at(words, 3, b"type") => haproxy_sentence(alloc, lines, words),

@@ -1,7 +1,7 @@
 //! Sentences about the data types of tables.
 
 use crate::faults::TypeFault;
-use crate::haproxy_sentences::{period_in, time_in, types_like, unshared_in, unshared_sentence};
+use crate::haproxy_sentences::{period_in, time_in, types_like, unshared_sentence};
 use crate::named::type_named;
 use crate::shown_words::{quoted_word, shown_word, without_commas, word_at};
 use crate::type_words::{name_part, period_part};
@@ -44,8 +44,8 @@ pub(crate) fn type_sentence(
 
 /// Returns the sentence about a word that begins with the name of no data type.
 fn unknown_sentence(alloc: Global, word: &[u8]) -> Result<String, AllocError> {
-    if let Some((name, instead)) = unshared_in(word) {
-        return unshared_sentence(alloc, name, instead);
+    if let Some(sentence) = unshared_sentence(alloc, word)? {
+        return Ok(sentence);
     }
     if word.contains(&b',') {
         return commas_sentence(alloc, word);

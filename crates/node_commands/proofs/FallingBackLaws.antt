@@ -2,7 +2,6 @@
 use Rattle.std.proofs.Common.{◌≡◌, ◌∙◌, ◌≤◌, ◌+◌, ◌-◌, ◌&&◌, ℕ, List, Option, Some, None, ap, subst}
 use Rattle.std.specs.Prelude.{if◌then◌else◌, nat_lt}
 use Rattle.std.specs.Io.KnownBytes.{Appends, Consumes}
-use Rattle.peers_devices.specs.Writing.{WriteCounts, no_writes}
 use Rattle.session_core.specs.Keeping.{KeptSession}
 use Rattle.peers_engine.specs.declared.worker.Worker.{Worker}
 use Rattle.text_commands.specs.declared.endings.Ending.{Ending}
@@ -12,17 +11,16 @@ use Rattle.node_commands.specs.declared.node.falling_back.Meeting.{Meeting}
 use Rattle.node_commands.specs.declared.node.falling_back.Meeting.TheVariants as meetings
 use Rattle.node_commands.specs.FallingBack.{EndsSo, IsFollowed, IsMeeting, IsPrintedAtLast, fallen_back, next_session}
 use Rattle.node_commands.specs.Nodes.{HasMet, IsPrinted, IsTold}
-use Rattle.node_commands.specs.Turning.{Plays, Sending, sending, writer}
+use Rattle.node_commands.specs.Turning.{Plays, Sending, Writer, sending}
 use Rattle.node_commands.proofs.NodeLaws.{IsAudited, audited_told}
-use Rattle.node_commands.proofs.TurningLaws.{IsPlayedBy}
+use Rattle.node_commands.proofs.TurningLaws.{IsPlayed}
 
 -- ---- what follows a connection
 
 -- the connection, with the reader and the writer before and after it
-abbrev HasFollowed : Node → ℕ → Meeting → Option (List ℕ) → Option (List ℕ) → Option (List ℕ) → ℕ → Option (List ℕ) → ℕ → Type 0
-HasFollowed n turns meeting from to old had new has =
-    (received sent : List ℕ) × (counts : WriteCounts)
-    × IsMeeting n turns meeting received (sending sent (writer old no_writes had) (writer new counts has)) × Consumes from to received × Appends old new sent
+abbrev HasFollowed : Node → ℕ → Meeting → Option (List ℕ) → Option (List ℕ) → Writer → Writer → Type 0
+HasFollowed n turns meeting from to a b =
+    (received sent : List ℕ) × IsMeeting n turns meeting received (sending sent a b) × Consumes from to received × Appends a.written.contents b.written.contents sent
 
 meeting_of : (n : Node) (e : Worker) (turns made : ℕ) (ending : Ending) (meeting : Meeting) (received : List ℕ) (sent : Sending)
     → HasMet n turns made ending received sent e → IsFollowed (next_session n turns made e) n made e ending meeting → IsMeeting n turns meeting received sent
@@ -30,15 +28,14 @@ unfolding IsMeeting
 meeting_of n e turns made ending meeting received sent met followed = (made, e, ending, met, followed)
 
 -- what follows, by the session that the code found
-pub followed_by : (n : Node) (e : Worker) (turns most made taken : ℕ) (ending : Ending) (next : Option KeptSession) (meeting : Meeting) (from to old : Option (List ℕ)) (had : ℕ) (new : Option (List ℕ)) (has : ℕ)
+pub followed_by : (n : Node) (e : Worker) (turns most made taken : ℕ) (ending : Ending) (next : Option KeptSession) (meeting : Meeting) (from to : Option (List ℕ)) (a b : Writer)
     → most ≡ turns - n.pace.taken → taken ≡ n.pace.taken + made → next ≡ (if e.session.session.fell_back && nat_lt taken turns then n.fallback else None)
-    → IsPlayedBy n.tables.shards n.pace n.worker most made ending e from to old had new has → made ≤ most → IsFollowed next n made e ending meeting → HasFollowed n turns meeting from to old had new has
-followed_by n e turns most made taken ending next meeting from to old had new has is_most is_taken is_next (received, sent, counts, plays, consumed, appended) within followed =
+    → IsPlayed n.tables.shards n.pace n.worker most made ending e from to a b → made ≤ most → IsFollowed next n made e ending meeting → HasFollowed n turns meeting from to a b
+followed_by n e turns most made taken ending next meeting from to a b is_most is_taken is_next (received, sent, plays, consumed, appended) within followed =
     let same : next ≡ next_session n turns made e = is_next ∙ ap (λ (k : ℕ). if e.session.session.fell_back && nat_lt k turns then n.fallback else None) is_taken in
-    let all : Sending = sending sent (writer old no_writes had) (writer new counts has) in (
+    let all : Sending = sending sent a b in (
       received,
       sent,
-      counts,
       meeting_of n e turns made ending meeting received all
           (subst (λ (m : ℕ). Plays n.tables.shards n.pace 0 n.worker m made ending received all e) is_most plays, subst (λ (m : ℕ). made ≤ m) is_most within)
           (subst (λ (s : Option KeptSession). IsFollowed s n made e ending meeting) same followed),

@@ -4,7 +4,7 @@ use Rattle.std.specs.Prelude.{◌↔◌, OnErr, OnOk}
 use Rattle.std.proofs.lemmas.List.{append-nil}
 use Rattle.std.proofs.KnownBytes.{Appends-nil, Appends-trans, Consumes-nil, Consumes-trans}
 use Rattle.std.specs.Io.KnownBytes.{Appends, Consumes}
-use Rattle.peers_devices.specs.Writing.{AreWritten, Balks, WriteCounts, no_writes, written}
+use Rattle.peers_devices.specs.Writing.{AreWritten, Balks, WriteCounts, written}
 use Rattle.session_core.specs.declared.event.Event.{Event}
 use Rattle.session_core.specs.declared.event.Event.TheVariants as events
 use Rattle.session_core.specs.declared.state.State.TheVariants as states
@@ -136,11 +136,8 @@ abbrev pub IsPlayed : ShardsState → Pace → Worker → ℕ → ℕ → Ending
 IsPlayed shards pace start turns made ending e from to a b =
     (received sent : List ℕ) × Plays shards pace 0 start turns made ending received (sending sent a b) e × Consumes from to received × Appends a.written.contents b.written.contents sent
 
-pub begins_there : (shards : ShardsState) (pace : Pace) (w : Worker) (turns : ℕ) (from contents : Option (List ℕ)) (failed : ℕ) (counts : WriteCounts) → counts ≡ no_writes
-    → HasPlayed shards pace w turns 0 w from from (writer contents no_writes failed) (writer contents counts failed)
-begins_there shards pace w turns from contents failed counts none =
-    subst (λ (x : WriteCounts). HasPlayed shards pace w turns 0 w from from (writer contents no_writes failed) (writer contents x failed)) (sym none)
-    ([], [], begins shards pace w turns (writer contents no_writes failed), Consumes-nil from, Appends-nil contents)
+pub begins_there : (shards : ShardsState) (pace : Pace) (w : Worker) (turns : ℕ) (from : Option (List ℕ)) (a : Writer) → HasPlayed shards pace w turns 0 w from from a a
+begins_there shards pace w turns from a = ([], [], begins shards pace w turns a, Consumes-nil from, Appends-nil a.written.contents)
 
 pub one_more_there : (shards : ShardsState) (pace : Pace) (start w mid : Worker) (turns before : ℕ) (gave : Result Outcome EngineError) (from then to : Option (List ℕ)) (a b d : Writer) → before < turns
     → HasPlayed shards pace start turns before w from then a b → HasTaken shards (turn_after pace before w) gave (turn_after pace before mid) then to b d → ending_after pace.leaves mid.session.session gave ≡ None
@@ -168,16 +165,6 @@ pub all_made_there : (shards : ShardsState) (pace : Pace) (start w : Worker) (tu
     → HasPlayed shards pace start turns before w from to a b → IsPlayed shards pace start turns turns endings.Done w from to a b
 all_made_there shards pace start w turns before from to a b enough most (received, sent, so_far, consumed, appended) =
     (received, sent, all_made shards pace start w turns before received (sending sent a b) enough most so_far, consumed, appended)
-
--- the same, with the counts of the play's own
-abbrev pub IsPlayedBy : ShardsState → Pace → Worker → ℕ → ℕ → Ending → Worker → Option (List ℕ) → Option (List ℕ) → Option (List ℕ) → ℕ → Option (List ℕ) → ℕ → Type 0
-IsPlayedBy shards pace start turns made ending e from to old had new has =
-    (received sent : List ℕ) × (counts : WriteCounts)
-    × Plays shards pace 0 start turns made ending received (sending sent (writer old no_writes had) (writer new counts has)) e × Consumes from to received × Appends old new sent
-
-pub with_counts : (shards : ShardsState) (pace : Pace) (start : Worker) (turns made : ℕ) (ending : Ending) (e : Worker) (from to old new : Option (List ℕ)) (had has : ℕ) (counts : WriteCounts)
-    → IsPlayed shards pace start turns made ending e from to (writer old no_writes had) (writer new counts has) → IsPlayedBy shards pace start turns made ending e from to old had new has
-with_counts shards pace start turns made ending e from to old new had has counts (received, sent, plays, consumed, appended) = (received, sent, counts, plays, consumed, appended)
 
 -- ---- one turn
 
@@ -216,7 +203,7 @@ ok_way shards at_end w e gave from to a b x y m n (event, received, sent, given,
     let reads = still_read at_end event received given in
     (received, sent, ((event, reads, still_takes w e event received sent reads takes), closed, wrote), consumed, wrote.0)
 
--- why a writer is given up is said of one error
+-- Why a turn gave its writer up is what the clause `balks` of `Worker::turn` says. It speaks of the error `Write` alone, so after any other there is nothing to show.
 given_up : (error : EngineError) (sent : Sending) → ((count : ℕ) → error ≡ errors.Write count → Balks sent.from.failed sent.to.failed sent.from.written.counts sent.to.written.counts) → IsGivenUp error sent
 given_up (errors.Write count) sent balks = balks count refl
 given_up (errors.Session why) sent balks = tt

@@ -68,6 +68,10 @@ IsTold n made e text = (a : AuditState) × IsAuditOf n.tables (e.seat ∷ []) a 
 unfoldable pub IsPrinted : Node → ℕ → Ending → List ℕ → Sending → List ℕ → Type 0
 IsPrinted n turns ending received sent text = (made : ℕ) × (e : Worker) × HasMet n turns made ending received sent e × IsTold n made e text
 
+-- a node's session took such turns, received and sent the bytes given, and ended in one way or another
+unfoldable pub HasTakenTurns : Node → ℕ → List ℕ → Sending → Type 0
+HasTakenTurns n turns received sent = (made : ℕ) × (e : Worker) × (ending : Ending) × HasMet n turns made ending received sent e
+
 -- What a node prints that serves the scene in one session; in several; and in as many as the link has.
 abbrev pub IsServedAlone : Scene → Link → Ending → List ℕ → Type 0
 IsServedAlone scene link ending text =

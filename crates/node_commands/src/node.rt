@@ -10,14 +10,13 @@ mod turns;
 
 ghost use Rattle.std.specs.Prelude.{◌≡◌, ◌≢◌, ◌⊎◌, ◌∷◌, [], ℕ, List, true, false, IfErr, IfOk, string_bytes};
 ghost use Rattle.std.specs.Io.KnownBytes.{Appends, Consumes};
-ghost use Rattle.peers_devices.specs.Writing.{WriteCounts, no_writes};
 ghost use Rattle.node_text.specs.declared.scenes.Scene.{Scene};
 ghost use Rattle.text_commands.specs.Endings.{IsEarly, line_of};
 ghost use Rattle.table_types.specs.declared.version.Version.TheVariants as versions;
 ghost use Rattle.text_commands.specs.declared.endings.Ending.TheVariants as endings;
 ghost use Rattle.table_shards.specs.Audits.{AuditState};
 ghost use Rattle.node_commands.specs.Auditing.{IsAuditOf};
-ghost use Rattle.node_commands.specs.Nodes.{AppendsSome, IsJoining, IsPrinted, IsServing, has_rows, is_told, joining_session};
+ghost use Rattle.node_commands.specs.Nodes.{AppendsSome, HasTakenTurns, IsJoining, IsPrinted, IsServing, has_rows, is_told, joining_session};
 ghost use Rattle.node_commands.specs.Printing.{IsText};
 ghost use Rattle.node_commands.specs.Turning.{sending, writer};
 
@@ -29,7 +28,7 @@ use crate::node::turns::{Pace, Turns, play};
 use crate::printing::session_text;
 pub use falling_back::Meeting;
 use node_text::{Scene, read_scene};
-use peers_devices::{Faults, read_to_end, write_all};
+use peers_devices::{Faults, Writes, read_to_end, write_all};
 use peers_engine::Worker;
 use peers_hello::Hello;
 pub(crate) use server::Server;
@@ -301,8 +300,9 @@ impl Node {
     }
 
     /// Runs the session with the other node for at most `turns` turns, those of an earlier session included, audits the tables, and
-    /// returns what is to be printed. `from` reads what the other node sends, and `to` writes what it receives. Fails with `Device` if
-    /// a read or a write fails or the audit finds a fault, and with `Memory` if memory runs out: then nothing is printed.
+    /// returns what is to be printed. `from` reads what the other node sends, and `to` writes what it receives; the writes are counted
+    /// in `writes`. Fails with `Device` if a read or a write fails or the audit finds a fault, and with `Memory` if memory runs out:
+    /// then nothing is printed.
     pub fn meet<H: Wait, R: Read + Faults, W: Write + Faults>(
         self,
         rt: &H,
@@ -310,9 +310,14 @@ impl Node {
         turns: u32,
         from: &mut R,
         to: &mut W,
+        writes: &mut Writes,
     ) -> Result<Report, Ending>
-        ensures printed { IfOk result (λ report. (received sent : List ℕ) × (writes : WriteCounts)
-            × IsPrinted self turns report.ending received (sending sent (writer (W.contents to.old) no_writes (W.failed to.old)) (writer (W.contents to.new) writes (W.failed to.new))) report.text.items
+        ensures played { (received sent : List ℕ)
+            × HasTakenTurns self turns received (sending sent (writer (W.contents to.old) writes.old (W.failed to.old)) (writer (W.contents to.new) writes.new (W.failed to.new)))
+            × Consumes (R.remaining from.old) (R.remaining from.new) received
+            × Appends (W.contents to.old) (W.contents to.new) sent }
+        ensures printed { IfOk result (λ report. (received sent : List ℕ)
+            × IsPrinted self turns report.ending received (sending sent (writer (W.contents to.old) writes.old (W.failed to.old)) (writer (W.contents to.new) writes.new (W.failed to.new))) report.text.items
             × Consumes (R.remaining from.old) (R.remaining from.new) received
             × Appends (W.contents to.old) (W.contents to.new) sent) }
         ensures early { IfErr result (λ ending. (ending ≡ endings.Memory) ⊎ (ending ≡ endings.Device)) }
@@ -325,7 +330,16 @@ impl Node {
         } = self;
         let most = turns.saturating_sub(pace.taken);
         let asked = Turns { pace, most };
-        let played = play(rt, alloc, &tables.shards, &mut worker, asked, from, to);
+        let played = play(
+            rt,
+            alloc,
+            &tables.shards,
+            &mut worker,
+            asked,
+            from,
+            to,
+            writes,
+        );
         let taken = pace.taken + played.turns;
         report_of(alloc, tables, Served { worker, played }, taken)
     }

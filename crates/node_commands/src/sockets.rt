@@ -14,7 +14,7 @@ ghost use Rattle.node_commands.specs.Turning.{Sending};
 
 use crate::link::Link;
 use crate::node::{Meeting, Node, Report, Server, serve_all, total_of};
-use peers_devices::{Counting, Faults};
+use peers_devices::{Counting, Faults, Writes};
 use std::alloc::Global;
 use std::io;
 use std::io::{Read, Write};
@@ -75,6 +75,7 @@ fn met<H: Wait>(
             turns,
             &mut Counting::new(&stream),
             &mut Counting::new(&stream),
+            &mut Writes::none(),
         ),
         Err(_) => Err(Ending::Device),
     }
@@ -100,6 +101,7 @@ fn met_first<H: Wait>(
             turns,
             &mut Counting::new(&stream),
             &mut Counting::new(&stream),
+            &mut Writes::none(),
         ),
         Err(_) => Err(Ending::Device),
     }

@@ -1,6 +1,6 @@
 -- Rounds end: each of them leaves one peer less that was asked no later than the one that finishes.
 use Rattle.std.proofs.Common.{◌≡◌, ℕ, zero, suc, ◌+◌, ◌-◌, ◌*◌, ◌≤◌, ◌<◌, Bool, true, false, not, ◌&&◌, ◌||◌, cond, List, [], ◌∷◌, length, Option, Some, None, ◌⊎◌, inl, inr, refl, sym, ap, ◌∙◌, subst, arith}
-use Rattle.std.specs.Prelude.{is_none, nat_le, slice_get}
+use Rattle.std.specs.Prelude.{◌||◌, is_none, nat_le, slice_get}
 use Rattle.std.specs.List.{list_all}
 use Rattle.std.proofs.lemmas.Bool.{cases_eq, eq-eqb, false≢true, le-leb}
 use Rattle.std.proofs.lemmas.Bool.Decides.{nat_tests}
@@ -194,9 +194,9 @@ answered_get Finished q later j a apart = by (owes (slice_get a.peers q))
     by : (b : Bool) → slice_get (AskingState.peers (cond b (record a { taught = true; awaited = None }) a)) j ≡ slice_get a.peers j
     by true = refl
     by false = refl
-answered_get Partial q later j a apart = by (owes (slice_get a.peers q))
+answered_get (Partial lacks) q later j a apart = by (owes (slice_get a.peers q))
   where
-    by : (b : Bool) → slice_get (AskingState.peers (cond b (stood standings.Partial q a) a)) j ≡ slice_get a.peers j
+    by : (b : Bool) → slice_get (AskingState.peers (cond b (record (stood standings.Partial q a) { incomplete = a.incomplete || lacks }) a)) j ≡ slice_get a.peers j
     by true = others_stay (λ p. record p { standing = standings.Partial }) a.peers q j apart
     by false = refl
 answered_get Incomplete q later j a apart = by (owes (slice_get a.peers q))
@@ -212,9 +212,9 @@ answered_ahead Finished q later t a = by (owes (slice_get a.peers q))
     by : (b : Bool) → ahead t (AskingState.peers (cond b (record a { taught = true; awaited = None }) a)) ≡ ahead t a.peers
     by true = refl
     by false = refl
-answered_ahead Partial q later t a = by (owes (slice_get a.peers q))
+answered_ahead (Partial lacks) q later t a = by (owes (slice_get a.peers q))
   where
-    by : (b : Bool) → ahead t (AskingState.peers (cond b (stood standings.Partial q a) a)) ≡ ahead t a.peers
+    by : (b : Bool) → ahead t (AskingState.peers (cond b (record (stood standings.Partial q a) { incomplete = a.incomplete || lacks }) a)) ≡ ahead t a.peers
     by true = as_many_ahead t standings.Partial a.peers q
     by false = refl
 answered_ahead Incomplete q later t a = by (owes (slice_get a.peers q))
@@ -226,7 +226,7 @@ answered_ahead Nothing q later t a = refl
 
 answered_none : (answer : Answer) (q now : ℕ) (a : AskingState) (d : Candidate) → slice_get a.peers q ≡ Some d → (answered answer q (now + 5000) (asked q now a)).awaited ≡ None
 answered_none Finished q now a d found = ap (λ (b : Bool). AskingState.awaited (cond b (record (asked q now a) { taught = true; awaited = None }) (asked q now a))) (owes_then q now a d found)
-answered_none Partial q now a d found = ap (λ (b : Bool). AskingState.awaited (cond b (stood standings.Partial q (asked q now a)) (asked q now a))) (owes_then q now a d found)
+answered_none (Partial lacks) q now a d found = ap (λ (b : Bool). AskingState.awaited (cond b (record (stood standings.Partial q (asked q now a)) { incomplete = a.incomplete || lacks }) (asked q now a))) (owes_then q now a d found)
     ∙ ap (λ (b : Bool). cond b None (Some (record { peer = q; asked_at = now; since = now }))) (eq-eqb q q refl)
 answered_none Incomplete q now a d found = ap (λ (b : Bool). AskingState.awaited (cond b (record (stood standings.Incomplete q (asked q now a)) { incomplete = true }) (asked q now a))) (owes_then q now a d found)
     ∙ ap (λ (b : Bool). cond b None (Some (record { peer = q; asked_at = now; since = now }))) (eq-eqb q q refl)
@@ -234,7 +234,7 @@ answered_none Nothing q now a d found = ap (λ (b : Bool). cond (b || nat_le 600
 
 finishes : (answer : Answer) (q later now : ℕ) (a : AskingState) (d : Candidate) → answer ≡ Finished → slice_get a.peers q ≡ Some d → (answered answer q later (asked q now a)).taught ≡ true
 finishes Finished q later now a d is found = ap (λ (b : Bool). AskingState.taught (cond b (record (asked q now a) { taught = true; awaited = None }) (asked q now a))) (owes_then q now a d found)
-finishes Partial q later now a d is found = cc
+finishes (Partial lacks) q later now a d is found = cc
 finishes Incomplete q later now a d is found = cc
 finishes Nothing q later now a d is found = cc
 

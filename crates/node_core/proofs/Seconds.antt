@@ -1,6 +1,6 @@
 -- A peer whose session stands is asked in time, whatever happens.
 use Rattle.std.proofs.Common.{◌≡◌, ℕ, zero, suc, ◌+◌, ◌-◌, ◌*◌, ◌≤◌, ◌<◌, Bool, true, false, not, ◌&&◌, ◌==◌, cond, List, [], ◌∷◌, length, Option, Some, None, ◌⊎◌, inl, inr, refl, sym, ap, ◌∙◌, subst, arith}
-use Rattle.std.specs.Prelude.{max, nat_le, option_map, slice_get}
+use Rattle.std.specs.Prelude.{◌||◌, max, nat_le, option_map, slice_get}
 use Rattle.std.specs.List.{list_all, list_any}
 use Rattle.std.proofs.lemmas.Bool.{cases_Bool, cases_eq, cases_lt, eq-eqb, false≢true, le-leb, leb-true, leb-false, ltb-true, ne_eqb}
 use Rattle.std.proofs.Math.Nat.{le-max_left, le-max_right, max-le}
@@ -30,9 +30,9 @@ keep_up (Finishes peer) a up = by (owes (slice_get a.peers peer))
     by : (b : Bool) → AskingState.taught (cond b (record a { taught = true; awaited = None }) a) ≡ true
     by true = refl
     by false = up
-keep_up (FinishesPartly peer) a up = by (owes (slice_get a.peers peer))
+keep_up (FinishesPartly peer lacks) a up = by (owes (slice_get a.peers peer))
   where
-    by : (b : Bool) → AskingState.taught (cond b (stood standings.Partial peer a) a) ≡ true
+    by : (b : Bool) → AskingState.taught (cond b (record (stood standings.Partial peer a) { incomplete = a.incomplete || lacks }) a) ≡ true
     by true = up
     by false = up
 keep_up (FinishesIncompletely peer) a up = by (owes (slice_get a.peers peer))
@@ -73,9 +73,9 @@ step_since peer now (Finishes other) a times since = by (owes (slice_get a.peers
     by : (b : Bool) → Since peer now (AskingState.peers (cond b (record a { taught = true; awaited = None }) a))
     by true = since
     by false = since
-step_since peer now (FinishesPartly other) a times since = by (owes (slice_get a.peers other))
+step_since peer now (FinishesPartly other lacks) a times since = by (owes (slice_get a.peers other))
   where
-    by : (b : Bool) → Since peer now (AskingState.peers (cond b (stood standings.Partial other a) a))
+    by : (b : Bool) → Since peer now (AskingState.peers (cond b (record (stood standings.Partial other a) { incomplete = a.incomplete || lacks }) a))
     by true = since_still (λ p. record p { standing = standings.Partial }) a.peers peer other now (λ c. refl) since
     by false = since
 step_since peer now (FinishesIncompletely other) a times since = by (owes (slice_get a.peers other))
@@ -103,7 +103,7 @@ earlier now t (Ends peer) order times = refl
 earlier now t (Asks peer when) order times = le-leb now when (omega (arith, order, leb-true t when times))
 earlier now t (Brings peer when) order times = refl
 earlier now t (Finishes peer) order times = refl
-earlier now t (FinishesPartly peer) order times = refl
+earlier now t (FinishesPartly peer lacks) order times = refl
 earlier now t (FinishesIncompletely peer) order times = refl
 earlier now t (Passes when) order times = refl
 
@@ -163,7 +163,7 @@ asked_or_not peer now (Asks other when) a times = by (is_next other when a) refl
     ]
 asked_or_not peer now (Brings other when) a times = inr refl
 asked_or_not peer now (Finishes other) a times = inr refl
-asked_or_not peer now (FinishesPartly other) a times = inr refl
+asked_or_not peer now (FinishesPartly other lacks) a times = inr refl
 asked_or_not peer now (FinishesIncompletely other) a times = inr refl
 asked_or_not peer now (Passes when) a times = inr refl
 
@@ -188,9 +188,9 @@ step_length (Finishes other) a = by (owes (slice_get a.peers other))
     by : (b : Bool) → length (AskingState.peers (cond b (record a { taught = true; awaited = None }) a)) ≡ length a.peers
     by true = refl
     by false = refl
-step_length (FinishesPartly other) a = by (owes (slice_get a.peers other))
+step_length (FinishesPartly other lacks) a = by (owes (slice_get a.peers other))
   where
-    by : (b : Bool) → length (AskingState.peers (cond b (stood standings.Partial other a) a)) ≡ length a.peers
+    by : (b : Bool) → length (AskingState.peers (cond b (record (stood standings.Partial other a) { incomplete = a.incomplete || lacks }) a)) ≡ length a.peers
     by true = changed_length (λ p. record p { standing = standings.Partial }) other a.peers
     by false = refl
 step_length (FinishesIncompletely other) a = by (owes (slice_get a.peers other))
@@ -292,9 +292,9 @@ step_limit peer t then (Finishes other) a due from until stands = by (owes (slic
     by : (b : Bool) → limit t then (cond b (record a { taught = true; awaited = None }) a) ≤ limit t then a
     by true = no_more (ahead then a.peers) (ahead then a.peers) t (deadline t a.awaited) refl (at_least t a.awaited)
     by false = same_le (limit t then a)
-step_limit peer t then (FinishesPartly other) a due from until stands = by (owes (slice_get a.peers other))
+step_limit peer t then (FinishesPartly other lacks) a due from until stands = by (owes (slice_get a.peers other))
   where
-    by : (b : Bool) → limit t then (cond b (stood standings.Partial other a) a) ≤ limit t then a
+    by : (b : Bool) → limit t then (cond b (record (stood standings.Partial other a) { incomplete = a.incomplete || lacks }) a) ≤ limit t then a
     by true = no_more _ _ _ _ (as_many then (λ p. record p { standing = standings.Partial }) a.peers other (λ c. refl)) (unless_less t other a.awaited)
     by false = same_le (limit t then a)
 step_limit peer t then (FinishesIncompletely other) a due from until stands = by (owes (slice_get a.peers other))
@@ -447,7 +447,7 @@ leaves_before last (Brings other when) until = λ v holds. by v holds (v.peer ==
     by v holds true = holds
     by v holds false = holds
 leaves_before last (Finishes other) until = tt
-leaves_before last (FinishesPartly other) until = tt
+leaves_before last (FinishesPartly other lacks) until = tt
 leaves_before last (FinishesIncompletely other) until = tt
 leaves_before last (Passes when) until = tt
 

@@ -1,6 +1,6 @@
 -- A peer that was asked can be asked again, and from then on each other peer is asked once at most before it.
 use Rattle.std.proofs.Common.{◌≡◌, ℕ, zero, suc, ◌+◌, ◌-◌, ◌≤◌, ◌<◌, Bool, true, false, not, ◌&&◌, ◌||◌, ◌==◌, cond, List, [], ◌∷◌, ◌++◌, length, Option, Some, None, inl, inr, refl, sym, ap, ◌∙◌, subst, arith}
-use Rattle.std.specs.Prelude.{is_none, nat_le, slice_get}
+use Rattle.std.specs.Prelude.{◌||◌, is_none, nat_le, slice_get}
 use Rattle.std.specs.List.{list_all, list_any}
 use Rattle.std.proofs.lemmas.Bool.{cases_eq, eq-eqb, false≢true, le-leb, leb-true}
 use Rattle.std.proofs.lemmas.Bool.Decides.{nat_tests}
@@ -53,9 +53,9 @@ step_stands peer t (Finishes other) a stays none stands = by (owes (slice_get a.
     by : (b : Bool) → Stands peer t (AskingState.peers (cond b (record a { taught = true; awaited = None }) a))
     by true = stands
     by false = stands
-step_stands peer t (FinishesPartly other) a stays none stands = by (owes (slice_get a.peers other))
+step_stands peer t (FinishesPartly other lacks) a stays none stands = by (owes (slice_get a.peers other))
   where
-    by : (b : Bool) → Stands peer t (AskingState.peers (cond b (stood standings.Partial other a) a))
+    by : (b : Bool) → Stands peer t (AskingState.peers (cond b (record (stood standings.Partial other a) { incomplete = a.incomplete || lacks }) a))
     by true = stands_still (λ p. record p { standing = standings.Partial }) a.peers peer other t (λ c there. (refl, refl)) stands
     by false = stands
 step_stands peer t (FinishesIncompletely other) a stays none stands = by (owes (slice_get a.peers other))
@@ -167,9 +167,9 @@ step_ahead peer now t (Finishes other) a due times stands = none_more _ _ (by (o
     by : (b : Bool) → ahead t (AskingState.peers (cond b (record a { taught = true; awaited = None }) a)) ≡ ahead t a.peers
     by true = refl
     by false = refl
-step_ahead peer now t (FinishesPartly other) a due times stands = none_more _ _ (by (owes (slice_get a.peers other)))
+step_ahead peer now t (FinishesPartly other lacks) a due times stands = none_more _ _ (by (owes (slice_get a.peers other)))
   where
-    by : (b : Bool) → ahead t (AskingState.peers (cond b (stood standings.Partial other a) a)) ≡ ahead t a.peers
+    by : (b : Bool) → ahead t (AskingState.peers (cond b (record (stood standings.Partial other a) { incomplete = a.incomplete || lacks }) a)) ≡ ahead t a.peers
     by true = as_many t (λ p. record p { standing = standings.Partial }) a.peers other (λ c. refl)
     by false = refl
 step_ahead peer now t (FinishesIncompletely other) a due times stands = none_more _ _ (by (owes (slice_get a.peers other)))

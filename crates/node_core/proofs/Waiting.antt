@@ -1,6 +1,6 @@
 -- Who is waited for, and how long.
 use Rattle.std.proofs.Common.{◌≡◌, ℕ, ◌+◌, ◌-◌, ◌≤◌, ◌<◌, Bool, true, false, not, ◌&&◌, ◌||◌, ◌==◌, cond, List, [], ◌∷◌, Option, Some, None, refl, sym, ap, ◌∙◌, subst, arith}
-use Rattle.std.specs.Prelude.{is_none, nat_le, option_map, slice_get}
+use Rattle.std.specs.Prelude.{◌||◌, is_none, nat_le, option_map, slice_get}
 use Rattle.std.specs.List.{list_any}
 use Rattle.std.proofs.lemmas.Bool.{eq-eqb, eqb-true, false≢true, le-leb}
 use Rattle.std.proofs.lemmas.Bool.Decides.{nat_tests}
@@ -45,9 +45,9 @@ waits_on a w (Ends peer) is may = (w, kept_unless a.awaited w peer is may, refl)
 waits_on a w (Asks peer now) is may = (w, ap (λ (b : Bool). AskingState.awaited (cond b (asked peer now a) a)) (nobody_next a w peer now is) ∙ is, refl)
 waits_on a w (Brings peer now) is may = (heard_from peer now w, ap (λ (o : Option Awaited). option_map (heard_from peer now) o) is, heard_peer w peer now)
 waits_on a w (Finishes peer) is may = cc
-waits_on a w (FinishesPartly peer) is may = (w, by (owes (slice_get a.peers peer)), refl)
+waits_on a w (FinishesPartly peer lacks) is may = (w, by (owes (slice_get a.peers peer)), refl)
   where
-    by : (b : Bool) → AskingState.awaited (cond b (stood standings.Partial peer a) a) ≡ Some w
+    by : (b : Bool) → AskingState.awaited (cond b (record (stood standings.Partial peer a) { incomplete = a.incomplete || lacks }) a) ≡ Some w
     by true = kept_unless a.awaited w peer is may
     by false = is
 waits_on a w (FinishesIncompletely peer) is may = (w, by (owes (slice_get a.peers peer)), refl)
@@ -80,7 +80,7 @@ Leaves P (Ends other) = Unit {0}
 Leaves P (Asks other now) = P (record { peer = other; asked_at = now; since = now })
 Leaves P (Brings other now) = (v : Awaited) → P v → P (heard_from other now v)
 Leaves P (Finishes other) = Unit {0}
-Leaves P (FinishesPartly other) = Unit {0}
+Leaves P (FinishesPartly other lacks) = Unit {0}
 Leaves P (FinishesIncompletely other) = Unit {0}
 Leaves P (Passes now) = Unit {0}
 
@@ -125,9 +125,9 @@ step_are P a (Finishes other) leaves are = by (owes (slice_get a.peers other))
     by : (b : Bool) → Are P (AskingState.awaited (cond b (record a { taught = true; awaited = None }) a))
     by true = λ w is. cc
     by false = are
-step_are P a (FinishesPartly other) leaves are = by (owes (slice_get a.peers other))
+step_are P a (FinishesPartly other lacks) leaves are = by (owes (slice_get a.peers other))
   where
-    by : (b : Bool) → Are P (AskingState.awaited (cond b (stood standings.Partial other a) a))
+    by : (b : Bool) → Are P (AskingState.awaited (cond b (record (stood standings.Partial other a) { incomplete = a.incomplete || lacks }) a))
     by true = unless_are P other a.awaited are
     by false = are
 step_are P a (FinishesIncompletely other) leaves are = by (owes (slice_get a.peers other))
@@ -181,7 +181,7 @@ leaves_since peer since (Brings other now) apart = λ v holds. by v holds (v.pee
     by v holds true equal = λ same. absurd (another other peer apart (sym (eqb-true v.peer other equal) ∙ same))
     by v holds false equal = holds
 leaves_since peer since (Finishes other) apart = tt
-leaves_since peer since (FinishesPartly other) apart = tt
+leaves_since peer since (FinishesPartly other lacks) apart = tt
 leaves_since peer since (FinishesIncompletely other) apart = tt
 leaves_since peer since (Passes now) apart = tt
 
@@ -195,7 +195,7 @@ leaves_asked peer when (Brings other now) apart = λ v holds. by v holds (v.peer
     by v holds true = holds
     by v holds false = holds
 leaves_asked peer when (Finishes other) apart = tt
-leaves_asked peer when (FinishesPartly other) apart = tt
+leaves_asked peer when (FinishesPartly other lacks) apart = tt
 leaves_asked peer when (FinishesIncompletely other) apart = tt
 leaves_asked peer when (Passes now) apart = tt
 

@@ -14,7 +14,7 @@ pub data Happening : Type 0 where
   Asks : ℕ → ℕ → Happening
   Brings : ℕ → ℕ → Happening
   Finishes : ℕ → Happening
-  FinishesPartly : ℕ → Happening
+  FinishesPartly : ℕ → Bool → Happening
   FinishesIncompletely : ℕ → Happening
   Passes : ℕ → Happening
 
@@ -25,7 +25,7 @@ after (Ends peer) a = stood standings.Away peer a
 after (Asks peer now) a = asked_if_next peer now a
 after (Brings peer now) a = heard peer now a
 after (Finishes peer) a = finished peer a
-after (FinishesPartly peer) a = partly_finished peer a
+after (FinishesPartly peer lacks) a = partly_finished lacks peer a
 after (FinishesIncompletely peer) a = incompletely_finished peer a
 after (Passes now) a = settled now (lapsed now a)
 
@@ -40,7 +40,7 @@ is_asking peer (Ends other) = false
 is_asking peer (Asks other now) = other == peer
 is_asking peer (Brings other now) = false
 is_asking peer (Finishes other) = false
-is_asking peer (FinishesPartly other) = false
+is_asking peer (FinishesPartly other lacks) = false
 is_asking peer (FinishesIncompletely other) = false
 is_asking peer (Passes now) = false
 
@@ -51,7 +51,7 @@ is_from peer (Ends other) = false
 is_from peer (Asks other now) = other == peer
 is_from peer (Brings other now) = other == peer
 is_from peer (Finishes other) = false
-is_from peer (FinishesPartly other) = false
+is_from peer (FinishesPartly other lacks) = false
 is_from peer (FinishesIncompletely other) = false
 is_from peer (Passes now) = false
 
@@ -63,7 +63,7 @@ may_end a w (Ends peer) = w.peer == peer
 may_end a w (Asks peer now) = false
 may_end a w (Brings peer now) = false
 may_end a w (Finishes peer) = true
-may_end a w (FinishesPartly peer) = w.peer == peer
+may_end a w (FinishesPartly peer lacks) = w.peer == peer
 may_end a w (FinishesIncompletely peer) = w.peer == peer
 may_end a w (Passes now) = is_over now w
 
@@ -74,7 +74,7 @@ is_end_of peer (Ends other) = other == peer
 is_end_of peer (Asks other now) = false
 is_end_of peer (Brings other now) = false
 is_end_of peer (Finishes other) = false
-is_end_of peer (FinishesPartly other) = false
+is_end_of peer (FinishesPartly other lacks) = false
 is_end_of peer (FinishesIncompletely other) = other == peer
 is_end_of peer (Passes now) = false
 
@@ -85,7 +85,7 @@ asks_none_before now (Ends peer) = true
 asks_none_before now (Asks peer when) = nat_le now when
 asks_none_before now (Brings peer when) = true
 asks_none_before now (Finishes peer) = true
-asks_none_before now (FinishesPartly peer) = true
+asks_none_before now (FinishesPartly peer lacks) = true
 asks_none_before now (FinishesIncompletely peer) = true
 asks_none_before now (Passes when) = true
 
@@ -96,7 +96,7 @@ asked_by (Ends peer) a = []
 asked_by (Asks peer now) a = if is_next peer now a then peer ∷ [] else []
 asked_by (Brings peer now) a = []
 asked_by (Finishes peer) a = []
-asked_by (FinishesPartly peer) a = []
+asked_by (FinishesPartly peer lacks) a = []
 asked_by (FinishesIncompletely peer) a = []
 asked_by (Passes now) a = []
 
@@ -115,14 +115,14 @@ IsAwaited peer a = (w : Awaited) × (a.awaited ≡ Some w) × (w.peer ≡ peer)
 -- node does, or does nothing.
 pub data Answer : Type 0 where
   Finished : Answer
-  Partial : Answer
+  Partial : Bool → Answer
   Incomplete : Answer
   Nothing : Answer
 
 -- the node once the peer that it asked has answered, or the time that it has for that is over
 abbrev pub answered : Answer → ℕ → ℕ → AskingState → AskingState
 answered Finished peer now a = finished peer a
-answered Partial peer now a = partly_finished peer a
+answered (Partial lacks) peer now a = partly_finished lacks peer a
 answered Incomplete peer now a = incompletely_finished peer a
 answered Nothing peer now a = lapsed now a
 
@@ -160,7 +160,7 @@ asks_none_after now (Ends peer) = true
 asks_none_after now (Asks peer when) = nat_le when now
 asks_none_after now (Brings peer when) = true
 asks_none_after now (Finishes peer) = true
-asks_none_after now (FinishesPartly peer) = true
+asks_none_after now (FinishesPartly peer lacks) = true
 asks_none_after now (FinishesIncompletely peer) = true
 asks_none_after now (Passes when) = true
 

@@ -107,9 +107,9 @@ finished peer a = if owes (slice_get a.peers peer) then record a { taught = true
 abbrev pub is_done_by : ℕ → AskingState → Bool
 is_done_by peer a = owes (slice_get a.peers peer) && not (is_up_to_date a)
 
--- a peer that was asked has taught what it has, which isn't all
-abbrev pub partly_finished : ℕ → AskingState → AskingState
-partly_finished peer a = if owes (slice_get a.peers peer) then stood standings.Partial peer a else a
+-- a peer that was asked has taught what it has, which isn't all, and may lack tables as this node defines them
+abbrev pub partly_finished : Bool → ℕ → AskingState → AskingState
+partly_finished lacks peer a = if owes (slice_get a.peers peer) then record (stood standings.Partial peer a) { incomplete = a.incomplete || lacks } else a
 
 -- a peer that was asked has taught all rows but those of tables that it doesn't define as this node does
 abbrev pub incompletely_finished : ℕ → AskingState → AskingState

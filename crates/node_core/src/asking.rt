@@ -34,7 +34,7 @@ pub enum Standing {
     Asked,
     /// It was asked on its session, and answered that it taught what it has, which isn't all.
     Partial,
-    /// It was asked on its session, and has taught all rows, but for tables that it defines otherwise than this node, or not at all.
+    /// It was asked on its session, and has taught all rows, but for tables that it defines differently from this node, or not at all.
     Incomplete,
 }
 
@@ -96,7 +96,7 @@ pub enum WaitEnd {
 /// It asks one peer at a time, and of those that can be asked the one that was asked longest ago. It waits for a peer until that
 /// ends its resync, loses its session, or has brought no row for `PATIENCE`, and for `LONGEST` in all; an end that comes later counts
 /// all the same. A peer that didn't answer, or only in part, can be asked again a minute after it was asked or last brought a row, at the
-/// latest `LATEST` after it was asked, or on its next session; one that defines a table otherwise than this node, or not at all, only on its
+/// latest `LATEST` after it was asked, or on its next session; one that defines a table differently from this node, or not at all, only on its
 /// next session: HAProxy defines a table only once on a session. The node asks until a peer has taught it all rows. It is up to date from
 /// then on, or once all peers with a session have taught what they have.
 #[derive(Drop)]
@@ -105,7 +105,7 @@ pub struct Asking {
     taught: bool,
     /// Whether the node took itself to be up to date since nobody had more to teach.
     settled: bool,
-    /// Whether a peer that was asked has shown that it defines some table otherwise than this node, or not at all.
+    /// Whether a peer that was asked has shown that it defines some table differently from this node, or not at all.
     incomplete: bool,
     awaited: Option<Awaited>,
     /// The peers, in the configuration's order.
@@ -350,7 +350,7 @@ impl Asking {
         self.taught
     }
 
-    /// Returns whether a peer that was asked has shown that it defines some table otherwise than this node, or not at all, so that another peer
+    /// Returns whether a peer that was asked has shown that it defines some table differently from this node, or not at all, so that another peer
     /// may have rows that this node lacks though it is up to date.
     pub fn is_incomplete(&self) -> bool
         ensures { result ≡ self.now.incomplete }
@@ -439,16 +439,18 @@ impl Asking {
         done
     }
 
-    /// Notes that the peer with this index has ended its resync as partial, which counts if it was asked.
-    pub fn finish_partly(&mut self, peer: usize)
-        ensures { self.new ≡ partly_finished peer self.old }
+    /// Notes that the peer with this index has ended its resync as partial, which counts if it was asked, and whether it defines some table
+    /// differently from this node, or not at all (`lacks`).
+    pub fn finish_partly(&mut self, peer: usize, lacks: bool)
+        ensures { self.new ≡ partly_finished lacks peer self.old }
     {
         if owes(self.peers.as_slice(), peer) {
             self.stand(peer, Standing::Partial);
+            self.incomplete = self.incomplete || lacks;
         }
     }
 
-    /// Notes that the peer with this index has ended its resync as finished, and defines some table otherwise than this node, or not at all.
+    /// Notes that the peer with this index has ended its resync as finished, and defines some table differently from this node, or not at all.
     /// This counts if it was asked.
     pub fn finish_incompletely(&mut self, peer: usize)
         ensures { self.new ≡ incompletely_finished peer self.old }

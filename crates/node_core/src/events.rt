@@ -193,6 +193,8 @@ pub enum PeerEvent<'a> {
         version: Version,
         /// What the connection says of the peer's process.
         process: Process,
+        /// For how long there was no session with the peer, in milliseconds; since the node's start if there was none before.
+        away: u64,
     },
     /// The node asks it for all rows.
     Asked,
@@ -212,7 +214,7 @@ pub enum PeerEvent<'a> {
         /// How long it took, in milliseconds.
         milliseconds: u64,
     },
-    /// It has a table otherwise than this node.
+    /// It has a table differently from this node.
     Mismatch {
         /// The table's name.
         table: &'a [u8],
@@ -238,6 +240,16 @@ pub enum PeerEvent<'a> {
         /// The table's name.
         table: &'a [u8],
     },
+    /// It defines a table as this node does, after it defined it differently, or hadn't defined it.
+    Alike {
+        /// The table's name.
+        table: &'a [u8],
+    },
+    /// It hasn't acknowledged the last rows of a table that it was taught, and the node stops.
+    Unacknowledged {
+        /// The table's name.
+        table: &'a [u8],
+    },
     /// It has defined a table that the node can't have, whose rows are passed over.
     PassedOver {
         /// The name of the first such table by the peer's ids, which the peer chose; empty if none is left.
@@ -254,10 +266,12 @@ pub enum PeerEvent<'a> {
     Ended {
         /// Why.
         end: SessionEnd,
+        /// For how long it stood, in milliseconds.
+        lasted: u64,
         /// What is known of the cause besides, in words that stand behind "ended"; empty if nothing is.
         cause: &'a [u8],
     },
-    /// It has closed several sessions soon after they began.
+    /// Several sessions with it ended soon after they began, each by its doing as far as this node can tell.
     ShortSessions {
         /// How many.
         count: u64,
@@ -271,7 +285,7 @@ pub enum PeerEvent<'a> {
 pub enum ResyncEnd {
     /// All rows were taught.
     Finished,
-    /// All rows were taught, but for tables that the teacher defines otherwise than the learner, or not at all.
+    /// All rows were taught, but for tables that the teacher defines differently from the learner, or not at all.
     Incomplete,
     /// Not all rows were taught.
     Partial,

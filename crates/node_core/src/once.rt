@@ -1,6 +1,6 @@
 //! What is said once, until it changes.
 
-ghost use Rattle.std.specs.Prelude.{◌≡◌, [], not, IfOk, OnOk, OnErr, None, Some};
+ghost use Rattle.std.specs.Prelude.{◌≡◌, [], is_none, not, IfOk, OnOk, OnErr, None, Some};
 ghost use Rattle.std.specs.List.{list_any};
 ghost use Rattle.table_types.specs.Rosters.{is_same_name};
 ghost use Rattle.node_core.specs.Onces.{has_said, is_said, said_after};
@@ -35,6 +35,13 @@ impl Once {
         }
         self.said = Some(Items::new(Vec::from_slice(alloc, words)?));
         Ok(true)
+    }
+
+    /// Returns whether nothing was said, or nothing is to be said any longer.
+    pub fn is_silent(&self) -> bool
+        ensures { result ≡ is_none self.now.said }
+    {
+        self.said.is_none()
     }
 
     /// Notes that there is nothing to be said any longer, so that whatever comes next is news.

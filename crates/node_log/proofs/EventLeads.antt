@@ -160,7 +160,8 @@ fields_lead peers.Connecting texts numbers = empty
 fields_lead (peers.Unreachable reason) texts numbers = empty
 fields_lead (peers.NoSession why cause) texts numbers = empty
 fields_lead (peers.Refused status node) texts numbers = number_lead (codes " status=") status (record { calm = refl; printable = refl }) (first _ _ numbers)
-fields_lead (peers.Connected accepted version process) texts numbers = session_lead accepted version process
+fields_lead (peers.Connected accepted version process away) texts numbers =
+    leads _ _ (session_lead accepted version process) (number_lead (codes " away_ms=") away (record { calm = refl; printable = refl }) (first _ _ numbers))
 fields_lead peers.Asked texts numbers = empty
 fields_lead (peers.Unanswered why) texts numbers = why_lead why
 fields_lead (peers.ResyncEnded taught end rows milliseconds) texts numbers =
@@ -171,9 +172,12 @@ fields_lead (peers.Mismatch table difference theirs ours) texts numbers = leads 
 fields_lead (peers.Unshared table) texts numbers = strange_lead (codes " table=") table.now table_key (first _ _ texts)
 fields_lead (peers.Undefined table) texts numbers = word_lead (codes " table=") table.now table_key (first _ _ texts)
 fields_lead (peers.Left table) texts numbers = word_lead (codes " table=") table.now table_key (first _ _ texts)
+fields_lead (peers.Alike table) texts numbers = word_lead (codes " table=") table.now table_key (first _ _ texts)
+fields_lead (peers.Unacknowledged table) texts numbers = word_lead (codes " table=") table.now table_key (first _ _ texts)
 fields_lead (peers.PassedOver table further) texts numbers = strange_if_lead (codes " table=") table.now table_key (first _ _ texts)
 fields_lead (peers.Fault fault) texts numbers = word_lead (codes " fault=") fault.now (record { calm = refl; printable = refl }) (first _ _ texts)
-fields_lead (peers.Ended end cause) texts numbers = end_lead end
+fields_lead (peers.Ended end lasted cause) texts numbers =
+    leads _ _ (end_lead end) (number_lead (codes " lasted_ms=") lasted (record { calm = refl; printable = refl }) (first _ _ numbers))
 fields_lead (peers.ShortSessions count node) texts numbers = count_lead count (first _ _ numbers)
 
 -- ---- of an event
@@ -217,7 +221,7 @@ peer_name_lead peers.Connecting = record { calm = refl; printable = refl }
 peer_name_lead (peers.Unreachable reason) = record { calm = refl; printable = refl }
 peer_name_lead (peers.NoSession why cause) = record { calm = refl; printable = refl }
 peer_name_lead (peers.Refused status node) = record { calm = refl; printable = refl }
-peer_name_lead (peers.Connected accepted version process) = record { calm = refl; printable = refl }
+peer_name_lead (peers.Connected accepted version process away) = record { calm = refl; printable = refl }
 peer_name_lead peers.Asked = record { calm = refl; printable = refl }
 peer_name_lead (peers.Unanswered why) = record { calm = refl; printable = refl }
 peer_name_lead (peers.ResyncEnded taught end rows milliseconds) = record { calm = refl; printable = refl }
@@ -225,9 +229,11 @@ peer_name_lead (peers.Mismatch table difference theirs ours) = record { calm = r
 peer_name_lead (peers.Unshared table) = record { calm = refl; printable = refl }
 peer_name_lead (peers.Undefined table) = record { calm = refl; printable = refl }
 peer_name_lead (peers.Left table) = record { calm = refl; printable = refl }
+peer_name_lead (peers.Alike table) = record { calm = refl; printable = refl }
+peer_name_lead (peers.Unacknowledged table) = record { calm = refl; printable = refl }
 peer_name_lead (peers.PassedOver table further) = record { calm = refl; printable = refl }
 peer_name_lead (peers.Fault fault) = record { calm = refl; printable = refl }
-peer_name_lead (peers.Ended end cause) = record { calm = refl; printable = refl }
+peer_name_lead (peers.Ended end lasted cause) = record { calm = refl; printable = refl }
 peer_name_lead (peers.ShortSessions count node) = record { calm = refl; printable = refl }
 
 name_lead : (event : Event) → IsLead (event_name event)

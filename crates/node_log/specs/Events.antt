@@ -18,7 +18,7 @@ peer_event_name peers.Connecting = codes "connecting"
 peer_event_name (peers.Unreachable reason) = codes "unreachable"
 peer_event_name (peers.NoSession why cause) = codes "unreachable"
 peer_event_name (peers.Refused status node) = codes "refused"
-peer_event_name (peers.Connected accepted version process) = codes "connected"
+peer_event_name (peers.Connected accepted version process away) = codes "connected"
 peer_event_name peers.Asked = codes "asked"
 peer_event_name (peers.Unanswered why) = codes "unanswered"
 peer_event_name (peers.ResyncEnded taught end rows milliseconds) = codes "resync-ended"
@@ -26,9 +26,11 @@ peer_event_name (peers.Mismatch table difference theirs ours) = codes "mismatch"
 peer_event_name (peers.Unshared table) = codes "unshared"
 peer_event_name (peers.Undefined table) = codes "undefined"
 peer_event_name (peers.Left table) = codes "left"
+peer_event_name (peers.Alike table) = codes "alike"
+peer_event_name (peers.Unacknowledged table) = codes "unacknowledged"
 peer_event_name (peers.PassedOver table further) = codes "passed-over"
 peer_event_name (peers.Fault fault) = codes "fault"
-peer_event_name (peers.Ended end cause) = codes "ended"
+peer_event_name (peers.Ended end lasted cause) = codes "ended"
 peer_event_name (peers.ShortSessions count node) = codes "short-sessions"
 
 abbrev pub event_name : Event → List ℕ
@@ -68,10 +70,10 @@ end_level ends.Error = levels.Warn
 
 abbrev pub peer_event_level : PeerEvent → Level
 peer_event_level peers.Connecting = levels.Info
-peer_event_level (peers.Connected accepted version process) = levels.Info
+peer_event_level (peers.Connected accepted version process away) = levels.Info
 peer_event_level peers.Asked = levels.Info
 peer_event_level (peers.ResyncEnded taught end rows milliseconds) = resync_level end
-peer_event_level (peers.Ended end cause) = end_level end
+peer_event_level (peers.Ended end lasted cause) = end_level end
 peer_event_level (peers.Unreachable reason) = levels.Warn
 peer_event_level (peers.NoSession why cause) = levels.Warn
 peer_event_level (peers.Refused status node) = levels.Warn
@@ -80,6 +82,8 @@ peer_event_level (peers.Mismatch table difference theirs ours) = levels.Warn
 peer_event_level (peers.Unshared table) = levels.Info
 peer_event_level (peers.Undefined table) = levels.Info
 peer_event_level (peers.Left table) = levels.Warn
+peer_event_level (peers.Alike table) = levels.Info
+peer_event_level (peers.Unacknowledged table) = levels.Warn
 peer_event_level (peers.PassedOver table further) = levels.Warn
 peer_event_level (peers.Fault fault) = levels.Warn
 peer_event_level (peers.ShortSessions count node) = levels.Warn

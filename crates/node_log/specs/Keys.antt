@@ -64,8 +64,8 @@ abbrev pub wait_name : WaitEnd → List ℕ
 wait_name waits.Mute = codes "mute"
 wait_name waits.Endless = codes "endless"
 
--- the status that answers a hello that is refused for this reason (HAProxy, doc/peers-v2.0.txt; that one that comes too late is answered
--- 501 is a choice of this project)
+-- the status that answers a hello that is refused for this reason (HAProxy, doc/peers-v2.0.txt; the 501 for a late hello is a choice of
+-- this project)
 abbrev pub status_of : HelloRefusal → ℕ
 status_of refusals.Garbled = 501
 status_of refusals.Version = 502
@@ -165,7 +165,7 @@ peer_fields peers.Connecting = []
 peer_fields (peers.Unreachable reason) = []
 peer_fields (peers.NoSession why cause) = []
 peer_fields (peers.Refused status node) = number_field (codes " status=") status
-peer_fields (peers.Connected accepted version process) = session_fields accepted version process
+peer_fields (peers.Connected accepted version process away) = session_fields accepted version process ++ number_field (codes " away_ms=") away
 peer_fields peers.Asked = []
 peer_fields (peers.Unanswered why) = word_field (codes " why=") (wait_name why)
 peer_fields (peers.ResyncEnded taught end rows milliseconds) = resync_fields taught end rows milliseconds
@@ -173,9 +173,11 @@ peer_fields (peers.Mismatch table difference theirs ours) = word_field (codes " 
 peer_fields (peers.Unshared table) = strange_field (codes " table=") table.now
 peer_fields (peers.Undefined table) = word_field (codes " table=") table.now
 peer_fields (peers.Left table) = word_field (codes " table=") table.now
+peer_fields (peers.Alike table) = word_field (codes " table=") table.now
+peer_fields (peers.Unacknowledged table) = word_field (codes " table=") table.now
 peer_fields (peers.PassedOver table further) = strange_if (codes " table=") table.now
 peer_fields (peers.Fault fault) = word_field (codes " fault=") fault.now
-peer_fields (peers.Ended end cause) = word_field (codes " end=") (end_name end)
+peer_fields (peers.Ended end lasted cause) = word_field (codes " end=") (end_name end) ++ number_field (codes " lasted_ms=") lasted
 peer_fields (peers.ShortSessions count node) = number_field (codes " count=") count
 
 -- ---- of an event

@@ -24,6 +24,8 @@ peer_texts (peers.Mismatch table difference theirs ours) = table.now ∷ []
 peer_texts (peers.Unshared table) = table.now ∷ []
 peer_texts (peers.Undefined table) = table.now ∷ []
 peer_texts (peers.Left table) = table.now ∷ []
+peer_texts (peers.Alike table) = table.now ∷ []
+peer_texts (peers.Unacknowledged table) = table.now ∷ []
 peer_texts (peers.PassedOver table further) = table.now ∷ []
 peer_texts (peers.Fault fault) = fault.now ∷ []
 peer_texts event = []
@@ -48,7 +50,9 @@ texts_of (events.Stopped cut) = []
 
 abbrev pub peer_numbers : PeerEvent → List ℕ
 peer_numbers (peers.Refused status node) = status ∷ []
+peer_numbers (peers.Connected accepted version process away) = away ∷ []
 peer_numbers (peers.ResyncEnded taught end rows milliseconds) = rows ∷ milliseconds ∷ []
+peer_numbers (peers.Ended end lasted cause) = lasted ∷ []
 peer_numbers (peers.ShortSessions count node) = count ∷ []
 peer_numbers event = []
 

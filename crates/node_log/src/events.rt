@@ -42,6 +42,8 @@ pub fn peer_event_name(event: &PeerEvent<'_>) -> &'static str
         PeerEvent::Unshared { .. } => "unshared",
         PeerEvent::Undefined { .. } => "undefined",
         PeerEvent::Left { .. } => "left",
+        PeerEvent::Alike { .. } => "alike",
+        PeerEvent::Unacknowledged { .. } => "unacknowledged",
         PeerEvent::PassedOver { .. } => "passed-over",
         PeerEvent::Fault { .. } => "fault",
         PeerEvent::Ended { .. } => "ended",
@@ -79,7 +81,8 @@ fn peer_event_level(event: &PeerEvent<'_>) -> Level
         | PeerEvent::Connected { .. }
         | PeerEvent::Asked
         | PeerEvent::Unshared { .. }
-        | PeerEvent::Undefined { .. } => Level::Info,
+        | PeerEvent::Undefined { .. }
+        | PeerEvent::Alike { .. } => Level::Info,
         PeerEvent::ResyncEnded { end, .. } => resync_level(*end),
         PeerEvent::Ended { end, .. } => end_level(*end),
         PeerEvent::Unreachable { .. }
@@ -88,6 +91,7 @@ fn peer_event_level(event: &PeerEvent<'_>) -> Level
         | PeerEvent::Unanswered { .. }
         | PeerEvent::Mismatch { .. }
         | PeerEvent::Left { .. }
+        | PeerEvent::Unacknowledged { .. }
         | PeerEvent::PassedOver { .. }
         | PeerEvent::Fault { .. }
         | PeerEvent::ShortSessions { .. } => Level::Warn,

@@ -243,7 +243,11 @@ fn push_peer_keys(text: &mut Vec<u8>, event: &PeerEvent<'_>) -> Result<(), Alloc
             accepted,
             version,
             process,
-        } => push_session(text, *accepted, *version, *process),
+            away,
+        } => {
+            push_session(text, *accepted, *version, *process)?;
+            push_number_field(text, " away_ms=", *away)
+        }
         PeerEvent::ResyncEnded {
             taught,
             end,
@@ -260,11 +264,15 @@ fn push_peer_keys(text: &mut Vec<u8>, event: &PeerEvent<'_>) -> Result<(), Alloc
         }
         PeerEvent::Unshared { table } => push_strange_field(text, " table=", table),
         PeerEvent::PassedOver { table, .. } => push_strange_if(text, " table=", table),
-        PeerEvent::Undefined { table } | PeerEvent::Left { table } => {
-            push_field(text, " table=", table)
-        }
+        PeerEvent::Undefined { table }
+        | PeerEvent::Left { table }
+        | PeerEvent::Alike { table }
+        | PeerEvent::Unacknowledged { table } => push_field(text, " table=", table),
         PeerEvent::Fault { fault } => push_field(text, " fault=", fault),
-        PeerEvent::Ended { end, .. } => push_field(text, " end=", end.name().as_bytes()),
+        PeerEvent::Ended { end, lasted, .. } => {
+            push_field(text, " end=", end.name().as_bytes())?;
+            push_number_field(text, " lasted_ms=", *lasted)
+        }
         PeerEvent::ShortSessions { count, .. } => push_number_field(text, " count=", *count),
     }
 }

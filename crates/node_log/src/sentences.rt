@@ -64,7 +64,7 @@ pub(crate) fn sentence_of(alloc: Global, event: &Event<'_>) -> Result<String, Al
 /// Returns the sentence about a node that has stopped and cut `cut` sessions.
 fn stop_sentence(alloc: Global, cut: u64) -> Result<String, AllocError> {
     if cut == 0 {
-        String::from_str(alloc, "the node has stopped, and cut no session")
+        String::from_str(alloc, "the node has stopped")
     } else {
         format!(in alloc;
             "the node has stopped, and cut sessions ({cut}) that after 3 s were still at work, or whose peer hadn't acknowledged all rows: that peer may lack the last changes"
@@ -203,11 +203,11 @@ fn peer_sentence(alloc: Global, name: &str, event: &PeerEvent<'_>) -> Result<Str
         PeerEvent::Unanswered { why } => wait_sentence(alloc, name, *why),
         PeerEvent::ResyncEnded { taught, end, .. } => resync_sentence(alloc, name, *taught, *end),
         PeerEvent::Fault { fault } => fault_sentence(alloc, name, fault),
-        PeerEvent::Ended { end, cause } => end_sentence(alloc, name, *end, text_of(cause)),
+        PeerEvent::Ended { end, cause, .. } => end_sentence(alloc, name, *end, text_of(cause)),
         PeerEvent::ShortSessions { node, .. } => {
             let node = text_of(node);
             format!(in alloc;
-                "{name} closes each session within seconds: another node may go by the name {node} there and needs another one, {name} may be starting again and again, or this node is too slow for it"
+                "each session with {name} ends within seconds: it may have been restarted or reloaded several times, or keep starting; two processes may call themselves {name}, or another node may go by the name {node} there, and one of them needs another name; or this node is too slow for it"
             )
         }
         _ => table_sentence(alloc, name, event),
@@ -219,13 +219,13 @@ fn unreachable_sentence(alloc: Global, name: &str, reason: &[u8]) -> Result<Stri
     let why = text_of(reason);
     match reason {
         b"Connection refused" => format!(in alloc;
-            "this node can't connect to {name}: {why}; it isn't running there, or its own line \"peer {name} ..\" has another port"
+            "this node can't connect to {name}: {why}; it isn't running there, its own line \"peer {name} ..\" (or \"listen ..\" of a node like this one) has another port, or a firewall rejects what is sent to this port"
         ),
         b"connection timed out" | b"Connection timed out" => format!(in alloc;
             "this node can't connect to {name}: {why}; its host is down, or something on the way drops what is sent to this port"
         ),
         b"No route to host" => format!(in alloc;
-            "this node can't connect to {name}: {why}; its host is down, or nothing on the way leads to it"
+            "this node can't connect to {name}: {why}; its host is down, nothing on the way leads to it, or a firewall rejects what is sent to this port"
         ),
         _ => format!(in alloc; "this node can't connect to {name}: {why}"),
     }
@@ -304,10 +304,10 @@ fn mismatch_sentence(
 ) -> Result<String, AllocError> {
     match difference {
         Difference::Kind | Difference::Length => format!(in alloc;
-            "{name} has {theirs}, this node {ours}: until both define the table alike, neither stores a row of the other's"
+            "{name} has {theirs}, this node {ours}: neither takes a row of this table from the other; once both define it alike, start this node again unless it asks {name} by itself then, or it lacks what {name} counted meanwhile"
         ),
         Difference::Types | Difference::Period => format!(in alloc;
-            "{name} has {theirs}, this node {ours}: until both define the table alike, no row of {name}'s is stored here, though a HAProxy stores this node's"
+            "{name} has {theirs}, this node {ours}: no row of this table is taken from {name}, though a HAProxy stores this node's; once both define it alike, start this node again unless it asks {name} by itself then, or it lacks what {name} counted meanwhile"
         ),
     }
 }
@@ -337,6 +337,12 @@ fn table_sentence(alloc: Global, name: &str, event: &PeerEvent<'_>) -> Result<St
         ),
         PeerEvent::Left { .. } => format!(in alloc;
             "{name} has acknowledged no row of this table within 2 s, so none is taught any longer on this connection: it may lack the table, or have it with another kind or length of keys; if it only was slow or stood still, the next session mends it, so start {name} again"
+        ),
+        PeerEvent::Alike { .. } => format!(in alloc;
+            "{name} defines this table as this node does now, and they share its rows from now on: unless this node has asked {name} for all rows on this connection, or asks it next, start this node again, or it lacks what {name} counted before"
+        ),
+        PeerEvent::Unacknowledged { .. } => format!(in alloc;
+            "{name} hasn't acknowledged the last rows of this table in time, and this node stops: {name} may lack them until they change again"
         ),
         PeerEvent::PassedOver { further: true, .. } => format!(in alloc;
             "a table of {name} stores data types from 20 up, as gpc(4), so this node passes over its rows: give these types a table of their own there"
@@ -382,17 +388,17 @@ fn resync_sentence(
     match (taught, end) {
         (false, ResyncEnd::Finished) => format!(in alloc; "{name} has taught this node all rows"),
         (false, ResyncEnd::Incomplete) => format!(in alloc;
-            "{name} has taught this node its rows, but has no rows of some table, or doesn't define it as this node does, as a line mismatch or undefined says: other peers, if there are any, are asked as well"
+            "{name} has taught this node its rows, but has no rows of some table, or doesn't define it as this node does, as a line mismatch or undefined may say: other peers, if there are any, are asked as well"
         ),
         (false, ResyncEnd::Partial) => format!(in alloc;
-            "{name} has taught this node the rows that it has, but isn't up to date itself or has left a table"
+            "{name} has taught this node the rows that it has, but isn't up to date itself, as after its own start, or has left a table"
         ),
         (true, ResyncEnd::Finished) => format!(in alloc; "this node has taught {name} all rows"),
         (true, ResyncEnd::Incomplete | ResyncEnd::Partial) => format!(in alloc;
             "this node has taught {name} the rows that it has, but wasn't up to date itself or had left a table"
         ),
         (false, ResyncEnd::Broken) => format!(in alloc;
-            "the session with {name} ended before it had taught this node all rows: unless this node is up to date, it asks {name} again on the next session, or another peer"
+            "the session with {name} ended before it had taught this node all rows: until a peer has taught it all rows, this node as a rule asks {name} again on the next session, or another peer"
         ),
         (true, ResyncEnd::Broken) => format!(in alloc;
             "the session with {name} ended before this node had taught it all rows: {name} has to ask again"

@@ -7,7 +7,7 @@ use Rattle.node_core.specs.declared.processes.Process.TheVariants as processes
 use Rattle.node_rules.specs.declared.answers.Answers.{Answers}
 
 abbrev pub never_asked : Answers
-never_asked = record { has_answered = false; may_be_new = false }
+never_asked = record { ever_answered = false; may_be_new = false }
 
 abbrev is_same : Process → Bool
 is_same processes.Same = true
@@ -26,12 +26,12 @@ begun says_pid process away a = record a { may_be_new = a.may_be_new || is_maybe
 -- a resync that the peer was asked for is over: it has answered, unless its session ended before
 abbrev pub answered : ResyncEnd → Answers → Answers
 answered ends.Broken a = a
-answered ends.Finished a = record { has_answered = true; may_be_new = false }
-answered ends.Incomplete a = record { has_answered = true; may_be_new = false }
-answered ends.Partial a = record { has_answered = true; may_be_new = false }
+answered ends.Finished a = record { ever_answered = true; may_be_new = false }
+answered ends.Incomplete a = record { ever_answered = true; may_be_new = false }
+answered ends.Partial a = record { ever_answered = true; may_be_new = false }
 
 -- A node that isn't up to date asks each peer on its session. One that is asks a peer that never answered. If a peer has shown that it doesn't
 -- define all tables as the node does (`incomplete`), it also asks one that may be another process than the one that answered, and one once
 -- it has defined all tables as the node does.
 abbrev pub is_asked_on : Bool → Bool → Bool → Answers → Bool
-is_asked_on up_to_date incomplete alike a = not up_to_date || (not a.has_answered || (incomplete && (a.may_be_new || alike)))
+is_asked_on up_to_date incomplete alike a = not up_to_date || (not a.ever_answered || (incomplete && (a.may_be_new || alike)))

@@ -11,13 +11,16 @@ use Rattle.node_rules.specs.declared.resyncs.Teaching.{Teaching}
 abbrev pub resync_end : Bool → Bool → ResyncEnd
 resync_end up_to_date has_left = if up_to_date && not has_left then ends.Finished else ends.Partial
 
--- a peer that has defined some tables, but not all of this node's as it does, hasn't taught all rows, whatever it says; one that has
--- defined none has no rows
-abbrev pub counts_as : ℕ → Bool → ResyncEnd → ResyncEnd
-counts_as defined alike ends.Finished = if defined == 0 || alike then ends.Finished else ends.Incomplete
-counts_as defined alike ends.Incomplete = ends.Incomplete
-counts_as defined alike ends.Partial = ends.Partial
-counts_as defined alike ends.Broken = ends.Broken
+-- a peer that has defined some tables, but not all of this node's as it does, can't teach all rows; one that has defined none has no rows
+abbrev pub lacks_tables : ℕ → Bool → Bool
+lacks_tables defined alike = not (defined == 0 || alike)
+
+-- such a peer hasn't taught all rows, whatever it says
+abbrev pub counts_as : Bool → ResyncEnd → ResyncEnd
+counts_as lacks ends.Finished = if lacks then ends.Incomplete else ends.Finished
+counts_as lacks ends.Incomplete = ends.Incomplete
+counts_as lacks ends.Partial = ends.Partial
+counts_as lacks ends.Broken = ends.Broken
 
 -- ---- the node is the teacher
 

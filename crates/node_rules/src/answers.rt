@@ -12,7 +12,7 @@ const RESTART: u64 = 60_000;
 #[derive(Clone, Copy, Debug)]
 pub struct Answers {
     /// Whether it has ended a resync that it was asked for.
-    has_answered: bool,
+    ever_answered: bool,
     /// Whether it may be another process than the one that did.
     may_be_new: bool,
 }
@@ -36,7 +36,7 @@ impl Answers {
         ensures { result ≡ never_asked }
     {
         Answers {
-            has_answered: false,
+            ever_answered: false,
             may_be_new: false,
         }
     }
@@ -54,7 +54,7 @@ impl Answers {
         ensures { self.new ≡ answered end self.old }
     {
         if end != ResyncEnd::Broken {
-            self.has_answered = true;
+            self.ever_answered = true;
             self.may_be_new = false;
         }
     }
@@ -66,6 +66,6 @@ impl Answers {
     pub fn is_asked_on(self, up_to_date: bool, incomplete: bool, alike: bool) -> bool
         ensures { result ≡ is_asked_on up_to_date incomplete alike self }
     {
-        !up_to_date || !self.has_answered || (incomplete && (self.may_be_new || alike))
+        !up_to_date || !self.ever_answered || (incomplete && (self.may_be_new || alike))
     }
 }

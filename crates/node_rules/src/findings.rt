@@ -1,6 +1,6 @@
 //! What looks at the tables that a peer defines find of those of this node.
 
-ghost use Rattle.std.specs.Prelude.{◌≡◌, ◌&&◌, IfOk, None, OnErr, OnOk, Some, false, if◌then◌else◌, not};
+ghost use Rattle.std.specs.Prelude.{◌≡◌, ◌&&◌, IfOk, None, is_none, OnErr, OnOk, Some, false, if◌then◌else◌, not};
 ghost use Rattle.node_core.specs.Onces.{is_said};
 ghost use Rattle.node_rules.specs.Findings.{found_of, is_look, looked, said_after, undefined_after};
 
@@ -93,6 +93,13 @@ impl TableFinding {
         ensures { result ≡ self.now.undefined }
     {
         self.undefined
+    }
+
+    /// Returns whether the log has said nothing of it since it was alike.
+    pub fn is_silent(&self) -> bool
+        ensures { result ≡ is_none self.now.said.said }
+    {
+        self.said.is_silent()
     }
 
     /// Notes what a look finds of it. Of a table that both define alike nothing is to be said, and whatever comes next is news.

@@ -30,6 +30,6 @@ pub use findings::{Found, LookTimes, TableFinding, found_of};
 pub use hello_refusals::{SaidPart, hello_refusal, late_refusal, names_sender, said_in};
 pub use peer_record::PeerRecord;
 pub use peer_record_laws::{a_peer_stays_down_since, the_last_error_tells_why};
-pub use resyncs::{Learning, Resync, ResyncsHeard, Teaching, counts_as, resync_end};
+pub use resyncs::{Learning, Resync, ResyncsHeard, Teaching, counts_as, lacks_tables, resync_end};
 pub use seats::{Room, room_for_client, room_for_visit};
 pub use short_sessions::ShortSessions;

@@ -1,7 +1,7 @@
 //! The resyncs of a session, as its log and its metrics tell them.
 
 ghost use Rattle.std.specs.Prelude.{◌≡◌, None, is_some};
-ghost use Rattle.node_rules.specs.Resyncs.{asked, begun_at, broken, counts_as, end_of, learned_in, looked, nothing_asked, nothing_taught, over, resync_end, rows_before};
+ghost use Rattle.node_rules.specs.Resyncs.{asked, begun_at, broken, counts_as, end_of, lacks_tables, learned_in, looked, nothing_asked, nothing_taught, over, resync_end, rows_before};
 
 use node_core::ResyncEnd;
 
@@ -25,15 +25,22 @@ pub fn resync_end(up_to_date: bool, has_left: bool) -> ResyncEnd
     }
 }
 
-/// Returns what the end of a resync counts as in which the node was the learner, given how many tables the peer has defined on its session,
-/// and whether all tables of this node are among them, each defined as the node does: `end`, unless the peer says that it has taught all
-/// rows, and can't have taught those of some table. HAProxy defines all its tables in a resync, so one that it doesn't define it lacks; a
-/// peer that defines none, as a node does that has no rows, has taught all that there is.
-pub fn counts_as(end: ResyncEnd, defined: usize, alike: bool) -> ResyncEnd
-    ensures { result ≡ counts_as defined alike end }
+/// Returns whether a peer can't teach the rows of some table, given how many tables it has defined on its session, and whether all tables of
+/// this node are among them, each defined as the node does. HAProxy defines all its tables in a resync, so it lacks each one that it doesn't define;
+/// a peer that defines none, as a node does that has no rows, lacks nothing.
+pub fn lacks_tables(defined: usize, alike: bool) -> bool
+    ensures { result ≡ lacks_tables defined alike }
+{
+    defined > 0 && !alike
+}
+
+/// Returns what the end of a resync counts as in which the node was the learner, given whether the peer `lacks` tables: `end`, unless the peer
+/// says that it has taught all rows, and can't have taught those of some table.
+pub fn counts_as(end: ResyncEnd, lacks: bool) -> ResyncEnd
+    ensures { result ≡ counts_as lacks end }
 {
     match end {
-        ResyncEnd::Finished if defined > 0 && !alike => ResyncEnd::Incomplete,
+        ResyncEnd::Finished if lacks => ResyncEnd::Incomplete,
         _ => end,
     }
 }

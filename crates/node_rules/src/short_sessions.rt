@@ -1,7 +1,7 @@
-//! Sessions that a peer closes soon after they began.
+//! Sessions that end by the peer's doing soon after they began.
 
 ghost use Rattle.std.specs.Prelude.{◌≡◌};
-ghost use Rattle.node_rules.specs.ShortSessions.{count_after, is_closed, none_short, told};
+ghost use Rattle.node_rules.specs.ShortSessions.{count_after, is_far, none_short, told};
 
 use node_core::SessionEnd;
 
@@ -11,19 +11,19 @@ const LASTING: u64 = 10_000;
 /// How many short sessions in a row make a line of the log.
 const MANY: u64 = 3;
 
-/// How many sessions a peer has closed soon after they began, since the last one that lasted.
+/// How many sessions with a peer ended by its doing soon after they began, since the last one that lasted.
 #[derive(Clone, Copy, Debug)]
 pub struct ShortSessions {
     count: u64,
 }
 
-/// Returns whether a session that ended as `end` was closed or cut by the far side, as far as this end can tell.
-fn is_closed(end: SessionEnd) -> bool
-    ensures { result ≡ is_closed end }
+/// Returns whether the far side closed, cut or replaced a session that ended as `end`, as far as this end can tell.
+fn is_far(end: SessionEnd) -> bool
+    ensures { result ≡ is_far end }
 {
     match end {
-        SessionEnd::End | SessionEnd::Device => true,
-        SessionEnd::Silent | SessionEnd::Fault | SessionEnd::Replaced | SessionEnd::Error => false,
+        SessionEnd::End | SessionEnd::Device | SessionEnd::Replaced => true,
+        SessionEnd::Silent | SessionEnd::Fault | SessionEnd::Error => false,
     }
 }
 
@@ -45,7 +45,7 @@ impl ShortSessions {
             self.count = 0;
             return None;
         }
-        if given_up || !is_closed(end) {
+        if given_up || !is_far(end) {
             return None;
         }
         self.count = self.count.saturating_add(1);

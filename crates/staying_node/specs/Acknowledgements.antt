@@ -3,6 +3,10 @@ use Rattle.std.specs.Prelude.{Bool, ◌||◌, ◌==◌}
 use Rattle.std.specs.Option.{unwrap_or}
 use Rattle.session_core.specs.declared.progress.Progress.{Progress}
 
--- the last number of the table that was taught is acknowledged, or the table was left
+-- the last number of the table that was taught is acknowledged
+abbrev pub are_last_acknowledged : Progress → Bool
+are_last_acknowledged p = p.last == unwrap_or p.acknowledged 0
+
+-- it is, or the table was left
 abbrev pub is_acknowledged : Progress → Bool
-is_acknowledged p = p.left || p.last == unwrap_or p.acknowledged 0
+is_acknowledged p = p.left || are_last_acknowledged p

@@ -81,13 +81,20 @@ impl CatchingUp {
         asking.hear(peer, now);
     }
 
-    /// Notes how the resync has ended for which the peer with this index was asked. Returns whether the node becomes up to date by that.
-    pub(crate) fn end_resync<R: Wait>(&self, rt: &R, peer: usize, end: ResyncEnd) -> bool {
+    /// Notes how the resync has ended for which the peer with this index was asked, and whether the peer `lacks` tables. Returns whether the
+    /// node becomes up to date by that.
+    pub(crate) fn end_resync<R: Wait>(
+        &self,
+        rt: &R,
+        peer: usize,
+        end: ResyncEnd,
+        lacks: bool,
+    ) -> bool {
         let mut asking = self.asking.lock(rt);
         match end {
             ResyncEnd::Finished => return asking.finish(peer),
             ResyncEnd::Incomplete => asking.finish_incompletely(peer),
-            ResyncEnd::Partial => asking.finish_partly(peer),
+            ResyncEnd::Partial => asking.finish_partly(peer, lacks),
             ResyncEnd::Broken => {}
         }
         false

@@ -192,6 +192,15 @@ impl<'a, N: Wait + Clock> Look<'a, N> {
             None => None,
         };
         let found = found_of(theirs.is_some(), difference.is_some(), self.all_defined);
+        if found == Found::Alike && !finding.is_silent() {
+            let event = PeerEvent::Alike {
+                table: table.name(),
+            };
+            if !self.has_room(&event) {
+                return Ok(difference);
+            }
+            self.log(event);
+        }
         finding.note(found);
         match (&theirs, difference) {
             (Some(theirs), Some(difference)) => {

@@ -1,6 +1,6 @@
 //! A session with a peer, from its connection to its end.
 
-use crate::acknowledged::are_acknowledged;
+use crate::acknowledged::{are_acknowledged, are_last_acknowledged};
 use crate::brought::brought_on;
 use crate::catching_up::Offer;
 use crate::clock::milliseconds;
@@ -22,7 +22,7 @@ use node_core::{
 use node_log::pid_of;
 use node_rules::{
     EndNews, EndedConnection, Ending, Learning, Outside, Resync, ResyncsHeard, Teaching, counts_as,
-    end_of_over, resync_end,
+    end_of_over, lacks_tables, resync_end,
 };
 use peers_devices::Writes;
 use peers_engine::{AlwaysOpen, EngineError, Outcome, Worker};
@@ -155,6 +155,8 @@ struct Work<'a, N> {
     left: Vec<u64>,
     /// Whether the log says that a table was passed over.
     passes_over: bool,
+    /// Whether the node stops and the session ends because all was taught and acknowledged, but for tables that were left.
+    is_done: bool,
     /// The error that ended the session, if one did.
     error: Option<EngineError>,
     comparison: Comparison,
@@ -200,6 +202,7 @@ impl<'a, N: Wait + Clock> Work<'a, N> {
             tick_look: (0, 0),
             left: Vec::new(node.alloc),
             passes_over: false,
+            is_done: false,
             error: None,
             comparison: Comparison::new(),
         }
@@ -246,7 +249,9 @@ impl<'a, N: Wait + Clock> Work<'a, N> {
         let tables = self.worker.session.progress();
         let count = tables.len();
         let acknowledged = outside.stops && are_acknowledged(tables);
-        self.ending.look(now, outside, count, acknowledged)
+        let end = self.ending.look(now, outside, count, acknowledged);
+        self.is_done = outside.stops && !outside.paused && matches!(end, Some(SessionEnd::End));
+        end
     }
 
     /// Returns why a session that is over ended, given what a turn or a tick of it came to.
@@ -404,6 +409,7 @@ impl<'a, N: Wait + Clock> Work<'a, N> {
             accepted: self.role == PeerRole::Accept,
             version: version.unwrap_or(Version::V21),
             process,
+            away,
         });
     }
 
@@ -557,15 +563,15 @@ impl<'a, N: Wait + Clock> Work<'a, N> {
         }
     }
 
-    /// Returns what the end of a resync counts as in which the node was the learner. Of a session that is over by then it isn't known which
-    /// tables the peer had defined.
-    fn counted(&self, end: ResyncEnd) -> ResyncEnd {
+    /// Returns whether the peer can't teach the rows of some table. Of a session that is over it isn't known which tables the peer had
+    /// defined, so it is taken to lack some.
+    fn lacks_tables(&self) -> bool {
         match self.worker.session.reader() {
             Some(reader) => {
                 let alike = are_alike(self.node.roster.tables(), reader);
-                counts_as(end, reader.received().count(), alike)
+                lacks_tables(reader.received().count(), alike)
             }
-            None => counts_as(end, 1, false),
+            None => true,
         }
     }
 
@@ -592,10 +598,14 @@ impl<'a, N: Wait + Clock> Work<'a, N> {
         let Some(end) = self.learning.end_of(heard) else {
             return;
         };
-        let end = self.counted(end);
-        let done = self.node.catching_up.end_resync(self.rt, self.peer, end);
-        self.node.tell_of_catching_up(self.rt);
+        let lacks = self.lacks_tables();
+        let end = counts_as(end, lacks);
         self.end_learning(end);
+        let done = self
+            .node
+            .catching_up
+            .end_resync(self.rt, self.peer, end, lacks);
+        self.node.tell_of_catching_up(self.rt);
         self.set_state();
         if done {
             self.node.log_up_to_date(self.rt, Some(self.peer));
@@ -710,13 +720,31 @@ impl<'a, N: Wait + Clock> Work<'a, N> {
         let now = self.node.clock.milliseconds(self.rt);
         let mut status = self.slot.status(self.rt);
         let far = status.far;
+        let lasted = now.saturating_sub(status.record.since);
         let short = status.note_short(end, self.is_given_up(), now);
         status.end(end, now);
         drop(status);
-        self.log_end(end, far);
+        self.log_unacknowledged(far);
+        self.log_end(end, lasted, far);
         if let Some(count) = short {
             let node = self.node.configuration.node.as_slice();
             self.log_event_at(far, PeerEvent::ShortSessions { count, node });
+        }
+    }
+
+    /// Adds a line to the log for each table whose last rows the peer hasn't acknowledged, if the node stops.
+    fn log_unacknowledged(&self, far: Option<SocketAddr>) {
+        if !self.node.stops() {
+            return;
+        }
+        for progress in self.worker.session.progress() {
+            if are_last_acknowledged(progress) {
+                continue;
+            }
+            if let Some(table) = table_at(self.node.roster.tables(), progress.table) {
+                let table = table.name();
+                self.log_event_at(far, PeerEvent::Unacknowledged { table });
+            }
         }
     }
 
@@ -725,9 +753,9 @@ impl<'a, N: Wait + Clock> Work<'a, N> {
         self.node.stops() || self.node.is_paused()
     }
 
-    /// Adds a line to the log about the end of the connection with this far end, unless it is news of nothing: an attempt failed as the one
-    /// before, or was given up.
-    fn log_end(&self, end: SessionEnd, far: Option<SocketAddr>) {
+    /// Adds a line to the log about the end of the connection with this far end, whose session, if there was one, lasted for `lasted`
+    /// milliseconds, unless it is news of nothing: an attempt failed as the one before, or was given up.
+    fn log_end(&self, end: SessionEnd, lasted: u64, far: Option<SocketAddr>) {
         let cause = self.cause(end);
         let connection = EndedConnection {
             begun: self.ending.has_begun(),
@@ -739,7 +767,7 @@ impl<'a, N: Wait + Clock> Work<'a, N> {
         };
         let cause = cause.as_bytes();
         match connection.news() {
-            EndNews::Session => self.log_event_at(far, PeerEvent::Ended { end, cause }),
+            EndNews::Session => self.log_event_at(far, PeerEvent::Ended { end, lasted, cause }),
             EndNews::Refusal(status) => self.log_refusal(far, status),
             EndNews::NoSession => self.log_no_session(end, far, cause),
             EndNews::Nothing => {}
@@ -756,7 +784,7 @@ impl<'a, N: Wait + Clock> Work<'a, N> {
     fn cause(&self, end: SessionEnd) -> String {
         let alloc = self.node.alloc;
         if end == SessionEnd::End {
-            let cause = own_cause(self.node.stops(), self.node.is_paused());
+            let cause = own_cause(self.node.stops(), self.node.is_paused(), self.is_done);
             return String::from_str(alloc, cause).unwrap_or(String::new(alloc));
         }
         let codes = FailureCodes {

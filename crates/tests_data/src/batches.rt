@@ -59,13 +59,15 @@ const NOWHERE: UpdateParts = UpdateParts {
     name: b"",
 };
 
-static BATCHES: [Parts; 6] = [
-    (&[], None),
-    (&[SHORTEST, FITS], None),
-    (&[UNTIMED], None),
-    (&[NOWHERE], Some(BatchError::NoTable(0))),
-    (&[DEAD], Some(BatchError::Misfit(0))),
-    (&[FITS, TOO_LONG, NOWHERE], Some(BatchError::Misfit(1))),
+static BATCHES: [Parts; 8] = [
+    (&[], 1, None),
+    (&[SHORTEST, FITS], 1, None),
+    (&[UNTIMED], 1, None),
+    (&[NOWHERE], 1, Some(BatchError::NoTable(0))),
+    (&[DEAD], 1, Some(BatchError::Misfit(0))),
+    (&[FITS, TOO_LONG, NOWHERE], 1, Some(BatchError::Misfit(1))),
+    (&[FITS], 4_096, None),
+    (&[FITS], 4_097, Some(BatchError::TooMany)),
 ];
 
 #[test]

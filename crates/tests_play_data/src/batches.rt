@@ -2,15 +2,24 @@
 
 use crate::parts::{T1, UpdateParts, definition, updates};
 use std::alloc::Global;
-use table_types::{Batch, BatchError, TableDef};
+use table_types::{Batch, BatchError, TableDef, Update};
 
-/// Updates, and what a batch of them is refused for, if it is.
-pub type Parts = (&'static [UpdateParts], Option<BatchError>);
+/// Updates, how often the list of them is repeated, and what a batch is refused for, if it is.
+pub type Parts = (&'static [UpdateParts], u32, Option<BatchError>);
+
+fn repeated(alloc: Global, given: &[UpdateParts], times: u32) -> Option<Vec<Update>> {
+    let mut repeated = Vec::new(alloc);
+    for _ in 0..times {
+        let mut more = updates(alloc, given)?;
+        repeated.append(&mut more).ok()?;
+    }
+    Some(repeated)
+}
 
 /// Returns whether the updates are refused for their fault as a batch of the table, or accepted if they have none.
 fn is_right_for_table(alloc: Global, table: &TableDef, parts: &Parts) -> Option<bool> {
-    let (given, fault) = parts;
-    let batch = Batch::of_table(alloc, table, updates(alloc, *given)?);
+    let (given, times, fault) = parts;
+    let batch = Batch::of_table(alloc, table, repeated(alloc, *given, *times)?);
     Some(batch.err() == *fault)
 }
 

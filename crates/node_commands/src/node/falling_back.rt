@@ -2,15 +2,15 @@
 
 ghost use Rattle.std.specs.Prelude.{◌≡◌, ◌⊎◌, ◌&&◌, ℕ, List, None, IfErr, IfOk, if◌then◌else◌};
 ghost use Rattle.std.specs.Io.KnownBytes.{Appends, Consumes};
-ghost use Rattle.peers_devices.specs.Writing.{WriteCounts, no_writes};
 ghost use Rattle.text_commands.specs.declared.endings.Ending.TheVariants as endings;
 ghost use Rattle.node_commands.specs.FallingBack.{IsMeeting};
+ghost use Rattle.node_commands.specs.Nodes.{HasTakenTurns};
 ghost use Rattle.node_commands.specs.Turning.{sending, writer};
 
 use crate::node::sharing::Served;
 use crate::node::turns::{Pace, Turns, play};
 use crate::node::{Node, Report, report_of};
-use peers_devices::Faults;
+use peers_devices::{Faults, Writes};
 use peers_engine::Worker;
 use session_core::Session;
 use std::alloc::Global;
@@ -46,9 +46,14 @@ impl Node {
         turns: u32,
         from: &mut R,
         to: &mut W,
+        writes: &mut Writes,
     ) -> Result<Meeting, Ending>
-        ensures met { IfOk result (λ meeting. (received sent : List ℕ) × (writes : WriteCounts)
-            × IsMeeting self turns meeting received (sending sent (writer (W.contents to.old) no_writes (W.failed to.old)) (writer (W.contents to.new) writes (W.failed to.new)))
+        ensures played { (received sent : List ℕ)
+            × HasTakenTurns self turns received (sending sent (writer (W.contents to.old) writes.old (W.failed to.old)) (writer (W.contents to.new) writes.new (W.failed to.new)))
+            × Consumes (R.remaining from.old) (R.remaining from.new) received
+            × Appends (W.contents to.old) (W.contents to.new) sent }
+        ensures met { IfOk result (λ meeting. (received sent : List ℕ)
+            × IsMeeting self turns meeting received (sending sent (writer (W.contents to.old) writes.old (W.failed to.old)) (writer (W.contents to.new) writes.new (W.failed to.new)))
             × Consumes (R.remaining from.old) (R.remaining from.new) received
             × Appends (W.contents to.old) (W.contents to.new) sent) }
         ensures early { IfErr result (λ ending. (ending ≡ endings.Memory) ⊎ (ending ≡ endings.Device)) }
@@ -61,7 +66,16 @@ impl Node {
         } = self;
         let most = turns.saturating_sub(pace.taken);
         let asked = Turns { pace, most };
-        let played = play(rt, alloc, &tables.shards, &mut worker, asked, from, to);
+        let played = play(
+            rt,
+            alloc,
+            &tables.shards,
+            &mut worker,
+            asked,
+            from,
+            to,
+            writes,
+        );
         let taken = pace.taken + played.turns;
         let next = next_session(worker.session.fell_back(), taken < turns, fallback);
         match next {

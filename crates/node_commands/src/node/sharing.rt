@@ -7,7 +7,7 @@ ghost use Rattle.node_commands.specs.Sharing.{AllServed, AreKept, AreStarted};
 
 use crate::node::turns::{Pace, Played, Turns, play};
 use crate::sockets::taken;
-use peers_devices::Counting;
+use peers_devices::{Counting, Writes};
 use peers_engine::Worker;
 use std::alloc::Global;
 use std::net::{TcpListener, TcpStream};
@@ -72,6 +72,7 @@ fn serve_one<H: Wait>(rt: &H, shards: &Shards, task: Task) -> Served
         Turns { pace, most: turns },
         &mut Counting::new(&stream),
         &mut Counting::new(&stream),
+        &mut Writes::none(),
     );
     Served { worker, played }
 }

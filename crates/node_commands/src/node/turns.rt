@@ -2,7 +2,6 @@
 
 ghost use Rattle.std.specs.Prelude.{◌≡◌, ◌≤◌, ◌<◌, ◌+◌, ◌^◌, List, ℕ};
 ghost use Rattle.std.specs.Io.KnownBytes.{Appends, Consumes};
-ghost use Rattle.peers_devices.specs.Writing.{WriteCounts, no_writes};
 ghost use Rattle.node_commands.specs.Turning.{Plays, Takes, broken_by, closed_by, ending_after, moment_of, sending, turn_at, writer};
 
 use peers_devices::{Faults, Writes};
@@ -123,7 +122,7 @@ fn take_turn<H: Wait, R: Read + Faults, W: Write + Faults>(
 }
 
 /// Takes the turns of the worker's session, each at the moment that its pace gives it: all that it may take, or fewer if the session
-/// ends before.
+/// ends before. Counts its writes in `writes`.
 pub(crate) fn play<H: Wait, R: Read + Faults, W: Write + Faults>(
     rt: &H,
     alloc: Global,
@@ -132,18 +131,18 @@ pub(crate) fn play<H: Wait, R: Read + Faults, W: Write + Faults>(
     turns: Turns,
     from: &mut R,
     to: &mut W,
+    writes: &mut Writes,
 ) -> Played
     requires { turns.pace.taken + turns.most < 2 ^ 32 }
-    ensures plays { (received sent : List ℕ) × (writes : WriteCounts)
-        × Plays shards.now turns.pace 0 worker.old turns.most result.turns result.ending received (sending sent (writer (W.contents to.old) no_writes (W.failed to.old)) (writer (W.contents to.new) writes (W.failed to.new))) worker.new
+    ensures plays { (received sent : List ℕ)
+        × Plays shards.now turns.pace 0 worker.old turns.most result.turns result.ending received (sending sent (writer (W.contents to.old) writes.old (W.failed to.old)) (writer (W.contents to.new) writes.new (W.failed to.new))) worker.new
         × Consumes (R.remaining from.old) (R.remaining from.new) received
         × Appends (W.contents to.old) (W.contents to.new) sent }
     ensures within { result.turns ≤ turns.most }
 {
-    let mut writes = Writes::none();
     for before in 0..turns.most {
         let now = turns.pace.moment(before);
-        let turned = take_turn(rt, alloc, shards, worker, now, from, to, &mut writes);
+        let turned = take_turn(rt, alloc, shards, worker, now, from, to, writes);
         if let Some(ending) = ending_after(&worker.session, turns.pace.leaves, turned) {
             return Played {
                 turns: before + 1,
