@@ -7,13 +7,14 @@ import mmap
 import os
 import shutil
 import signal
+import socket
 import struct
 import subprocess
 import threading
 import time
 
-from harness.far import Manners, connected, kept_open, status_of
-from harness.node import T1, Admin
+from harness.far import Door, Manners, connected, kept_open, status_of
+from harness.node import T1, Admin, address
 from harness.trial import Folder, Skipped, check, equal, require, wait
 from harness.wire import CONFIRMED, FINISHED, HEARTBEAT, PARTIAL, REQUEST, acknowledgement, definition, hello, table, update
 from staying.logs import refused
@@ -147,6 +148,42 @@ def clock_of_a_mute_peer(trial):
     second.gets(REQUEST, SOON, 2)
     second.send(FINISHED)
     up_to_date(node)
+
+
+@check
+def clock_of_a_heartbeat_that_stays_away(trial):
+    """the log says for how long nothing was read of a peer, once something is, if that was more than 6,000 ms, and nothing if it was a ms less; the session stands on"""
+    node = Clocked(trial, tables=(T1,)).start()
+    far = connected(trial, node, 'b', SILENT)
+    passes(node, 500, 6_000)
+    far.send(HEARTBEAT)
+    time.sleep(0.5)
+    passes(node, 6_500, 12_000)
+    equal(node.logged('no-heartbeat'), [], 'lines about a peer that sent nothing for 6,000 ms')
+    node.at(12_001)
+    far.send(HEARTBEAT)
+    said, = node.logs('no-heartbeat', peer='b', seconds=SOON)
+    equal((said.level, said.keys['ms']), ('warn', '6001'), 'the line')
+    equal(node.peer('b')['state'], 'ready', 'its session')
+
+
+@check
+def clock_of_a_late_status(trial):
+    """that a peer answered the hello late is no heartbeat that stayed away; but a late one is behind which the far side closes at once"""
+    door = Door(trial, SILENT, status=b'')
+    node = Clocked(trial, peers=('b ' + address(door.port),), tables=(T1,)).start()
+    late = wait(lambda: door.kept and door.kept[0], SOON, 'the node connects', node.said)
+    passes(node, 500, 7_000)
+    late.sendall(b'200\n')
+    node.logs('connected', peer='b', seconds=SOON)
+    time.sleep(0.5)
+    equal(node.logged('no-heartbeat'), [], 'lines about a status that came late')
+    passes(node, 7_500, 14_000)
+    late.sendall(HEARTBEAT)
+    late.shutdown(socket.SHUT_WR)
+    node.logs('ended', peer='b', seconds=SOON)
+    said, = node.logged('no-heartbeat', peer='b')
+    equal(said.keys['ms'], '7000', 'ms for which nothing was read')
 
 
 def brings_on(far, there, number):

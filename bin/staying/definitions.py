@@ -8,7 +8,7 @@ from harness.node import Node, fields
 from harness.trial import check, equal, require, wait
 from harness.wire import DEFINITION, FINISHED, REQUEST, TABLE_CLASS, definition, encoded, message, table, update
 from staying.balancers import Pair
-from staying.sessions import asking
+from staying.sessions import KEEPS_QUIET, asking
 
 TABLES = ('table 1 kinds integer 4 0 gpc0', 'table 2 lengths string 33 0 gpc0', 'table 3 stores integer 4 0 gpc0',
           'table 4 periods integer 4 0 gpc0 http_req_rate:20000', 'table 5 further integer 4 0 gpc0', 'table 6 alike integer 4 0 gpc0')
@@ -89,7 +89,8 @@ def definitions_differ(trial):
 
 @check
 def differences_once(trial):
-    """a difference is said once, also on the next connection, and again if it is another one or comes back"""
+    """a difference is said once, also on the next connection, and again if it is another one or comes back; that the table is alike is said with what
+    repairs it"""
     node = Node(trial, tables=TABLES).start()
     for _ in range(2):
         far = connected(trial, node)
@@ -105,9 +106,29 @@ def differences_once(trial):
     require('http_req_rate(15s)' in says(node, 'mismatch', 2)[1], 'the log has the other period', node.said())
     define(far, PERIODS._replace(periods=((10, 20000),)))
     mismatched(node, {})
-    equal(tables_in(says(node, 'alike', 1)), ['periods'], 'the table that both define alike now')
+    found = says(node, 'alike', 1)
+    equal(tables_in(found), ['periods'], 'the table that both define alike now')
+    require('start this node again' in found[0], 'the log has what repairs it', found)
     define(far, PERIODS)
     require('http_req_rate(10s)' in says(node, 'mismatch', 3)[2], 'the log has the first period again', node.said())
+
+
+@check
+def alike_in_a_resync(trial):
+    """of a table that comes to be alike while the node is being taught, the log says which end brings its rows, and they come with that"""
+    node, far = asking(trial, tables=TABLES)
+    define(far, PERIODS)
+    says(node, 'mismatch', 1)
+    far.close()
+    far = connected(trial, node, manners=KEEPS_QUIET)
+    far.gets(REQUEST, 3)
+    alike = PERIODS._replace(periods=((10, 20000),))
+    define(far, alike)
+    found = says(node, 'alike', 1)
+    require('unless a line resync-ended with finished or incomplete follows' in found[0], 'the log says what to wait for', found)
+    far.send(update(alike, 1, 7, (1, (0, 0, 0))) + FINISHED)
+    said, = node.logs('resync-ended', peer='b', end='incomplete')
+    equal((said.keys['role'], said.keys['rows']), ('learner', '1'), 'the end that the line named')
 
 
 def counted(node, what, count, peer='b'):

@@ -293,7 +293,7 @@ def log_of_a_peer_that_is_another_server(trial):
 def log_of_an_end(trial):
     """a session that is closed or reset ends with a line of level info, one that its peer ends by an error message with a warning; each says why"""
     node = node_of_b(trial)
-    for times, (does, end, level, words) in enumerate(((lambda far: far.close(), 'end', 'info', 'b has closed the session'),
+    for times, (does, end, level, words) in enumerate(((lambda far: far.close(), 'end', 'info', 'the far end has closed the session: b '),
                                                        (lambda far: far.reset(), 'device', 'info', 'Connection reset by peer'),
                                                        (lambda far: far.send(PROTOCOL_ERROR), 'error', 'warn', 'by an error message')), 1):
         far = connected(trial, node)

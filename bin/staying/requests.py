@@ -642,6 +642,20 @@ def stop_waits_3_seconds(trial):
 
 
 @check
+def closes_while_the_node_stops(trial):
+    """of a peer that closes its session while the node stops the log says so, and which table it may lack rows of, and counts no session as cut"""
+    node, far = behind(trial)
+    equal(node.ask('stop'), 'ok', 'the answer to stop')
+    time.sleep(0.5)
+    far.close()
+    equal(node.child.wait(PATIENCE), 0, 'the status')
+    equal([lacking.keys['table'] for lacking in node.logged('unacknowledged', peer='b')], ['t1'], 'the table')
+    ended, = node.logged('ended', peer='b')
+    require(ended.sentence.startswith('the far end has closed the session: b '), 'the end names the peer', ended.sentence)
+    equal([stopped.keys['cut'] for stopped in node.logged('stopped')], ['0'], 'sessions that the node cut')
+
+
+@check
 def stopped_by_a_unit(trial):
     """the unit stops a node by its socket, and waits for its end"""
     perl = '/usr/bin/perl'

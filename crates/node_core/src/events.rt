@@ -244,6 +244,8 @@ pub enum PeerEvent<'a> {
     Alike {
         /// The table's name.
         table: &'a [u8],
+        /// Whether the node has asked it for all rows on this connection, and it hasn't ended that resync.
+        under_way: bool,
     },
     /// It hasn't acknowledged the last rows of a table that it was taught, and the node stops.
     Unacknowledged {
@@ -261,6 +263,11 @@ pub enum PeerEvent<'a> {
     Fault {
         /// The fault's name.
         fault: &'a [u8],
+    },
+    /// The node reads bytes of it again, after it had read none for longer than a heartbeat takes.
+    NoHeartbeat {
+        /// For how long it read none, in milliseconds.
+        milliseconds: u64,
     },
     /// A session with it is over.
     Ended {

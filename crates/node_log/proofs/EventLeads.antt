@@ -172,10 +172,11 @@ fields_lead (peers.Mismatch table difference theirs ours) texts numbers = leads 
 fields_lead (peers.Unshared table) texts numbers = strange_lead (codes " table=") table.now table_key (first _ _ texts)
 fields_lead (peers.Undefined table) texts numbers = word_lead (codes " table=") table.now table_key (first _ _ texts)
 fields_lead (peers.Left table) texts numbers = word_lead (codes " table=") table.now table_key (first _ _ texts)
-fields_lead (peers.Alike table) texts numbers = word_lead (codes " table=") table.now table_key (first _ _ texts)
+fields_lead (peers.Alike table under_way) texts numbers = word_lead (codes " table=") table.now table_key (first _ _ texts)
 fields_lead (peers.Unacknowledged table) texts numbers = word_lead (codes " table=") table.now table_key (first _ _ texts)
 fields_lead (peers.PassedOver table further) texts numbers = strange_if_lead (codes " table=") table.now table_key (first _ _ texts)
 fields_lead (peers.Fault fault) texts numbers = word_lead (codes " fault=") fault.now (record { calm = refl; printable = refl }) (first _ _ texts)
+fields_lead (peers.NoHeartbeat milliseconds) texts numbers = ms_lead milliseconds (first _ _ numbers)
 fields_lead (peers.Ended end lasted cause) texts numbers =
     leads _ _ (end_lead end) (number_lead (codes " lasted_ms=") lasted (record { calm = refl; printable = refl }) (first _ _ numbers))
 fields_lead (peers.ShortSessions count node) texts numbers = count_lead count (first _ _ numbers)
@@ -229,10 +230,11 @@ peer_name_lead (peers.Mismatch table difference theirs ours) = record { calm = r
 peer_name_lead (peers.Unshared table) = record { calm = refl; printable = refl }
 peer_name_lead (peers.Undefined table) = record { calm = refl; printable = refl }
 peer_name_lead (peers.Left table) = record { calm = refl; printable = refl }
-peer_name_lead (peers.Alike table) = record { calm = refl; printable = refl }
+peer_name_lead (peers.Alike table under_way) = record { calm = refl; printable = refl }
 peer_name_lead (peers.Unacknowledged table) = record { calm = refl; printable = refl }
 peer_name_lead (peers.PassedOver table further) = record { calm = refl; printable = refl }
 peer_name_lead (peers.Fault fault) = record { calm = refl; printable = refl }
+peer_name_lead (peers.NoHeartbeat milliseconds) = record { calm = refl; printable = refl }
 peer_name_lead (peers.Ended end lasted cause) = record { calm = refl; printable = refl }
 peer_name_lead (peers.ShortSessions count node) = record { calm = refl; printable = refl }
 

@@ -26,10 +26,11 @@ peer_event_name (peers.Mismatch table difference theirs ours) = codes "mismatch"
 peer_event_name (peers.Unshared table) = codes "unshared"
 peer_event_name (peers.Undefined table) = codes "undefined"
 peer_event_name (peers.Left table) = codes "left"
-peer_event_name (peers.Alike table) = codes "alike"
+peer_event_name (peers.Alike table under_way) = codes "alike"
 peer_event_name (peers.Unacknowledged table) = codes "unacknowledged"
 peer_event_name (peers.PassedOver table further) = codes "passed-over"
 peer_event_name (peers.Fault fault) = codes "fault"
+peer_event_name (peers.NoHeartbeat milliseconds) = codes "no-heartbeat"
 peer_event_name (peers.Ended end lasted cause) = codes "ended"
 peer_event_name (peers.ShortSessions count node) = codes "short-sessions"
 
@@ -82,10 +83,11 @@ peer_event_level (peers.Mismatch table difference theirs ours) = levels.Warn
 peer_event_level (peers.Unshared table) = levels.Info
 peer_event_level (peers.Undefined table) = levels.Info
 peer_event_level (peers.Left table) = levels.Warn
-peer_event_level (peers.Alike table) = levels.Info
+peer_event_level (peers.Alike table under_way) = levels.Info
 peer_event_level (peers.Unacknowledged table) = levels.Warn
 peer_event_level (peers.PassedOver table further) = levels.Warn
 peer_event_level (peers.Fault fault) = levels.Warn
+peer_event_level (peers.NoHeartbeat milliseconds) = levels.Warn
 peer_event_level (peers.ShortSessions count node) = levels.Warn
 
 -- A stop that cut no session is as it should be.

@@ -173,10 +173,11 @@ peer_fields (peers.Mismatch table difference theirs ours) = word_field (codes " 
 peer_fields (peers.Unshared table) = strange_field (codes " table=") table.now
 peer_fields (peers.Undefined table) = word_field (codes " table=") table.now
 peer_fields (peers.Left table) = word_field (codes " table=") table.now
-peer_fields (peers.Alike table) = word_field (codes " table=") table.now
+peer_fields (peers.Alike table under_way) = word_field (codes " table=") table.now
 peer_fields (peers.Unacknowledged table) = word_field (codes " table=") table.now
 peer_fields (peers.PassedOver table further) = strange_if (codes " table=") table.now
 peer_fields (peers.Fault fault) = word_field (codes " fault=") fault.now
+peer_fields (peers.NoHeartbeat milliseconds) = number_field (codes " ms=") milliseconds
 peer_fields (peers.Ended end lasted cause) = word_field (codes " end=") (end_name end) ++ number_field (codes " lasted_ms=") lasted
 peer_fields (peers.ShortSessions count node) = number_field (codes " count=") count
 

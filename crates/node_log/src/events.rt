@@ -46,6 +46,7 @@ pub fn peer_event_name(event: &PeerEvent<'_>) -> &'static str
         PeerEvent::Unacknowledged { .. } => "unacknowledged",
         PeerEvent::PassedOver { .. } => "passed-over",
         PeerEvent::Fault { .. } => "fault",
+        PeerEvent::NoHeartbeat { .. } => "no-heartbeat",
         PeerEvent::Ended { .. } => "ended",
         PeerEvent::ShortSessions { .. } => "short-sessions",
     }
@@ -94,6 +95,7 @@ fn peer_event_level(event: &PeerEvent<'_>) -> Level
         | PeerEvent::Unacknowledged { .. }
         | PeerEvent::PassedOver { .. }
         | PeerEvent::Fault { .. }
+        | PeerEvent::NoHeartbeat { .. }
         | PeerEvent::ShortSessions { .. } => Level::Warn,
     }
 }

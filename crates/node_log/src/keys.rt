@@ -266,9 +266,10 @@ fn push_peer_keys(text: &mut Vec<u8>, event: &PeerEvent<'_>) -> Result<(), Alloc
         PeerEvent::PassedOver { table, .. } => push_strange_if(text, " table=", table),
         PeerEvent::Undefined { table }
         | PeerEvent::Left { table }
-        | PeerEvent::Alike { table }
+        | PeerEvent::Alike { table, .. }
         | PeerEvent::Unacknowledged { table } => push_field(text, " table=", table),
         PeerEvent::Fault { fault } => push_field(text, " fault=", fault),
+        PeerEvent::NoHeartbeat { milliseconds } => push_number_field(text, " ms=", *milliseconds),
         PeerEvent::Ended { end, lasted, .. } => {
             push_field(text, " end=", end.name().as_bytes())?;
             push_number_field(text, " lasted_ms=", *lasted)

@@ -203,6 +203,9 @@ fn peer_sentence(alloc: Global, name: &str, event: &PeerEvent<'_>) -> Result<Str
         PeerEvent::Unanswered { why } => wait_sentence(alloc, name, *why),
         PeerEvent::ResyncEnded { taught, end, .. } => resync_sentence(alloc, name, *taught, *end),
         PeerEvent::Fault { fault } => fault_sentence(alloc, name, fault),
+        PeerEvent::NoHeartbeat { .. } => format!(in alloc;
+            "this node reads bytes of {name} again, after it had read not even a heartbeat for so long: {name} stalled or was busy, the network delayed its bytes, or this node itself stalled, which a line held-up tells as a rule"
+        ),
         PeerEvent::Ended { end, cause, .. } => end_sentence(alloc, name, *end, text_of(cause)),
         PeerEvent::ShortSessions { node, .. } => {
             let node = text_of(node);
@@ -304,10 +307,10 @@ fn mismatch_sentence(
 ) -> Result<String, AllocError> {
     match difference {
         Difference::Kind | Difference::Length => format!(in alloc;
-            "{name} has {theirs}, this node {ours}: neither takes a row of this table from the other; once both define it alike, start this node again unless it asks {name} by itself then, or it lacks what {name} counted meanwhile"
+            "{name} has {theirs}, this node {ours}: neither takes a row of this table from the other; once both define it alike, a line alike says whether to start this node again"
         ),
         Difference::Types | Difference::Period => format!(in alloc;
-            "{name} has {theirs}, this node {ours}: no row of this table is taken from {name}, though a HAProxy stores this node's; once both define it alike, start this node again unless it asks {name} by itself then, or it lacks what {name} counted meanwhile"
+            "{name} has {theirs}, this node {ours}: no row of this table is taken from {name}, though a HAProxy stores this node's; once both define it alike, a line alike says whether to start this node again"
         ),
     }
 }
@@ -336,13 +339,19 @@ fn table_sentence(alloc: Global, name: &str, event: &PeerEvent<'_>) -> Result<St
             "this node has this table, and {name} hasn't defined it: it may lack it, or its section of peers has it, whose tables have a / before their name here; or {name} is a node like this one, and the table is empty there"
         ),
         PeerEvent::Left { .. } => format!(in alloc;
-            "{name} has acknowledged no row of this table within 2 s, so none is taught any longer on this connection: it may lack the table, or have it with another kind or length of keys; if it only was slow or stood still, the next session mends it, so start {name} again"
+            "{name} has acknowledged no row of this table within 2 s, so none is taught any longer on this connection: it may lack the table, or have it with another kind or length of keys, as a line mismatch says; if it only was slow or stalled, reload {name} or start it again, and the next session mends it"
+        ),
+        PeerEvent::Alike {
+            under_way: true,
+            ..
+        } => format!(in alloc;
+            "{name} now defines this table as this node does, and both share its rows from now on; this node has asked {name} for all rows: unless a line resync-ended with finished or incomplete follows, start this node again, or it may lack what {name} counted before"
         ),
         PeerEvent::Alike { .. } => format!(in alloc;
-            "{name} defines this table as this node does now, and they share its rows from now on: unless this node has asked {name} for all rows on this connection, or asks it next, start this node again, or it lacks what {name} counted before"
+            "{name} now defines this table as this node does, and both share its rows from now on: unless this node asks {name} next, as a line asked says, start this node again, or it may lack what {name} counted before"
         ),
         PeerEvent::Unacknowledged { .. } => format!(in alloc;
-            "{name} hasn't acknowledged the last rows of this table in time, and this node stops: {name} may lack them until they change again"
+            "{name} hasn't acknowledged the last rows of this table in time, and this node stops: {name} may lack them until they change again, or until {name} is stopped and started, for which a reload isn't enough"
         ),
         PeerEvent::PassedOver { further: true, .. } => format!(in alloc;
             "a table of {name} stores data types from 20 up, as gpc(4), so this node passes over its rows: give these types a table of their own there"
@@ -415,6 +424,11 @@ fn or_failure(cause: &str) -> &str {
         b"by a failed write: Broken pipe".as_slice(),
     ) {
         "by a failed write: Broken pipe, since the peer had closed it"
+    } else if is_same_name(
+        cause.as_bytes(),
+        b"by a failed read: Connection reset by peer".as_slice(),
+    ) {
+        "by a failed read: Connection reset by peer, since its process ended or something on the way cut the connection"
     } else {
         cause
     }
@@ -462,12 +476,14 @@ fn end_sentence(
     cause: &str,
 ) -> Result<String, AllocError> {
     match end {
-        SessionEnd::End if cause.is_empty() => format!(in alloc; "{name} has closed the session"),
+        SessionEnd::End if cause.is_empty() => format!(in alloc;
+            "the far end has closed the session: {name} was stopped, killed or reloaded, which look the same here, it read nothing of this node for 5 s, or something on the way closed it"
+        ),
         SessionEnd::End => format!(in alloc;
             "this node has closed the session with {name} {cause}"
         ),
         SessionEnd::Silent => format!(in alloc;
-            "the session with {name} was given up, since no byte of it came for 10 s"
+            "the session with {name} was given up, since no byte of it came for 10 s: it hangs, its host is down or stands still, or the network drops its bytes"
         ),
         SessionEnd::Fault => format!(in alloc; "the session with {name} ended for its fault"),
         SessionEnd::Replaced => format!(in alloc;

@@ -2,6 +2,8 @@
 use Rattle.std.specs.Prelude.{ℕ, ◌+◌, ◌-◌, ◌^◌, Bool, true, false, not, ◌&&◌, ◌||◌, nat_le, nat_lt, min, Option, None, Some, if◌then◌else◌}
 use Rattle.node_core.specs.declared.session_ends.SessionEnd.{SessionEnd}
 use Rattle.node_core.specs.declared.session_ends.SessionEnd.TheVariants as ends
+use Rattle.node_rules.specs.declared.ending.Closing.{Closing}
+use Rattle.node_rules.specs.declared.ending.Closing.TheVariants as closings
 use Rattle.node_rules.specs.declared.ending.Ending.{Ending}
 use Rattle.node_rules.specs.declared.ending.LastWait.{LastWait}
 use Rattle.node_rules.specs.declared.ending.Outside.{Outside}
@@ -66,7 +68,12 @@ interruption now o tables acknowledged e =
     if o.replaced then Some ends.Replaced
     else (if o.paused || has_taught_all now o.stops tables acknowledged e then Some ends.End else None)
 
--- a session that is over by itself ends as it did, unless it was to end anyway; and for a stop if the node stops
-abbrev pub end_of_over : SessionEnd → Bool → Option SessionEnd → SessionEnd
-end_of_over end stops (Some interruption) = interruption
-end_of_over end stops None = if stops then ends.End else end
+-- why the node closes one itself: a table gets new numbers, or the node stops and this one has taught all, or isn't waited for any longer
+abbrev pub closing_of : Option SessionEnd → Bool → Bool → Option Closing
+closing_of (Some ends.End) paused cut = Some (if paused then closings.Renewal else closings.Taught)
+closing_of (Some ends.Silent) paused cut = None
+closing_of (Some ends.Fault) paused cut = None
+closing_of (Some ends.Replaced) paused cut = None
+closing_of (Some ends.Device) paused cut = None
+closing_of (Some ends.Error) paused cut = None
+closing_of None paused cut = if cut then Some closings.Cut else None

@@ -25,9 +25,9 @@ undefined_after found.Undefined undefined = true
 undefined_after found.Alike undefined = false
 undefined_after found.Unlike undefined = false
 
--- whatever comes after a table was alike is news
-abbrev pub said_after : Found → Option (List ℕ) → Option (List ℕ)
-said_after found.Awaited said = said
-said_after found.Undefined said = said
-said_after found.Alike said = None
-said_after found.Unlike said = said
+-- whatever comes after the log had room to say that a table is alike is news
+abbrev pub said_after : Found → Bool → Option (List ℕ) → Option (List ℕ)
+said_after found.Awaited has_room said = said
+said_after found.Undefined has_room said = said
+said_after found.Alike has_room said = if has_room then None else said
+said_after found.Unlike has_room said = said

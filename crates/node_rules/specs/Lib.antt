@@ -5,6 +5,7 @@ pub mod EndNews
 pub mod EndingRuns
 pub mod Endings
 pub mod Findings
+pub mod Heartbeats
 pub mod HelloRefusals
 pub mod PeerRecords
 pub mod PeerRuns

@@ -1,7 +1,7 @@
 //! When a session ends for what happens outside it.
 
 ghost use Rattle.std.specs.Prelude.{◌≡◌, ◌==◌, is_none, is_some, nat_le};
-ghost use Rattle.node_rules.specs.Endings.{another_look, begun, end_of_over, has_time, interruption, is_young, looked, sees_stop, started, turned, waits_from, waits_on};
+ghost use Rattle.node_rules.specs.Endings.{another_look, begun, closing_of, has_time, interruption, is_young, looked, sees_stop, started, turned, waits_from, waits_on};
 
 use node_core::SessionEnd;
 
@@ -194,13 +194,27 @@ impl LastWait {
     }
 }
 
-/// Returns why a session that is over by itself counts as ended, given why it is, what happens outside, and why it was to end now anyway.
-pub fn end_of_over(end: SessionEnd, stops: bool, interruption: Option<SessionEnd>) -> SessionEnd
-    ensures { result ≡ end_of_over end stops interruption }
+/// Why a node closes a session itself.
+#[derive(Clone, Copy, Debug, PartialEq, Eq)]
+pub enum Closing {
+    /// It stops, and the peer has acknowledged all that it was taught, but for tables that were left.
+    Taught,
+    /// It stops, and waits for its sessions no longer.
+    Cut,
+    /// A table gets new numbers.
+    Renewal,
+}
+
+/// Returns why the node closes a session itself, if it does, given why that is to end for what happens outside it, whether no session may
+/// stand, since a table gets new numbers, and whether the node stops and waits for its sessions no longer.
+pub fn closing_of(interruption: Option<SessionEnd>, paused: bool, cut: bool) -> Option<Closing>
+    ensures { result ≡ closing_of interruption paused cut }
 {
     match interruption {
-        Some(interruption) => interruption,
-        None if stops => SessionEnd::End,
-        None => end,
+        Some(SessionEnd::End) if paused => Some(Closing::Renewal),
+        Some(SessionEnd::End) => Some(Closing::Taught),
+        Some(_) => None,
+        None if cut => Some(Closing::Cut),
+        None => None,
     }
 }

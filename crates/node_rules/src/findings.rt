@@ -102,17 +102,20 @@ impl TableFinding {
         self.said.is_silent()
     }
 
-    /// Notes what a look finds of it. Of a table that both define alike nothing is to be said, and whatever comes next is news.
-    pub fn note(&mut self, found: Found)
+    /// Notes what a look finds of it. Once the log has had room to say that both define it alike, whatever comes next is news; `has_room`
+    /// counts for nothing else.
+    pub fn note(&mut self, found: Found, has_room: bool)
         ensures undefined { self.new.undefined ≡ undefined_after found self.old.undefined }
-        ensures said { self.new.said.said ≡ said_after found self.old.said.said }
+        ensures said { self.new.said.said ≡ said_after found has_room self.old.said.said }
     {
         match found {
             Found::Awaited => {}
             Found::Undefined => self.undefined = true,
             Found::Alike => {
                 self.undefined = false;
-                self.said.forget();
+                if has_room {
+                    self.said.forget();
+                }
             }
             Found::Unlike => self.undefined = false,
         }

@@ -72,8 +72,14 @@ impl Comparison {
         self.defining.end_resync(now, end);
     }
 
-    /// Looks at what the peer has defined, if that is due: notes what differs, and has the log say what it hasn't said of it.
-    pub(crate) fn look<N: Wait + Clock>(&mut self, place: &Place<'_, N>, reader: &Reader) {
+    /// Looks at what the peer has defined, if that is due: notes what differs, and has the log say what it hasn't said of it. `under_way` says
+    /// whether the node has asked the peer for all rows on this connection, and the peer hasn't ended that resync.
+    pub(crate) fn look<N: Wait + Clock>(
+        &mut self,
+        place: &Place<'_, N>,
+        reader: &Reader,
+        under_way: bool,
+    ) {
         let now = place.node.clock.milliseconds(place.rt);
         let count = reader.received().count();
         if !self.times.look(count, now) {
@@ -86,6 +92,7 @@ impl Comparison {
             place,
             reader,
             all_defined: self.defining.are_all_defined(now),
+            under_way,
         };
         let mut said = place.slot.said_of_tables(place.rt);
         let compared = look.compare(&mut said);
@@ -143,6 +150,8 @@ struct Look<'a, N> {
     reader: &'a Reader,
     /// Whether the peer has defined all tables that it will.
     all_defined: bool,
+    /// Whether the node has asked the peer for all rows on this connection, and the peer hasn't ended that resync.
+    under_way: bool,
 }
 
 impl<'a, N: Wait + Clock> Look<'a, N> {
@@ -192,16 +201,12 @@ impl<'a, N: Wait + Clock> Look<'a, N> {
             None => None,
         };
         let found = found_of(theirs.is_some(), difference.is_some(), self.all_defined);
-        if found == Found::Alike && !finding.is_silent() {
-            let event = PeerEvent::Alike {
-                table: table.name(),
-            };
-            if !self.has_room(&event) {
-                return Ok(difference);
-            }
-            self.log(event);
-        }
-        finding.note(found);
+        let has_room = if found == Found::Alike && !finding.is_silent() {
+            self.say_alike(table.name())
+        } else {
+            true
+        };
+        finding.note(found, has_room);
         match (&theirs, difference) {
             (Some(theirs), Some(difference)) => {
                 self.say_difference(table.name(), difference, &own, theirs, finding)?
@@ -210,6 +215,17 @@ impl<'a, N: Wait + Clock> Look<'a, N> {
             _ => {}
         }
         Ok(difference)
+    }
+
+    /// Has the log say that the peer defines a table as this node does, if it has room for that. Returns whether it had.
+    fn say_alike(&self, table: &[u8]) -> bool {
+        let under_way = self.under_way;
+        let event = PeerEvent::Alike { table, under_way };
+        let has_room = self.has_room(&event);
+        if has_room {
+            self.log(event);
+        }
+        has_room
     }
 
     /// Has the log say that the peer hasn't defined a table, if that is news.

@@ -5,6 +5,7 @@ ghost use Rattle.staying_node.specs.Ends.{begins_no_status, cause_of, end_of_clo
 
 use crate::devices::reason_text;
 use node_core::{NoSession, SessionEnd};
+use node_rules::Closing;
 use peers_engine::EngineError;
 use peers_hello::{Status, read_status};
 use std::alloc::{AllocError, Global};
@@ -91,18 +92,13 @@ pub(crate) fn cause_of(end: SessionEnd, head: &[u8]) -> NoSession
     }
 }
 
-/// Returns why this node closed a session, in words that stand behind "closed", or nothing if it did not: neither the node stops nor may no
-/// session stand, since a table gets new numbers. Of a node that stops, `is_done` says whether the session ended because all was taught and
-/// acknowledged, but for tables that were left.
-pub(crate) fn own_cause(stops: bool, paused: bool, is_done: bool) -> &'static str {
-    if stops && is_done {
-        "because it is stopping"
-    } else if stops {
-        "because it is stopping, before it knew that the peer had all rows"
-    } else if paused {
-        "because a table is getting new numbers"
-    } else {
-        ""
+/// Returns why this node closed a session, in words that stand behind "closed", or nothing if it did not.
+pub(crate) fn closing_cause(closing: Option<Closing>) -> &'static str {
+    match closing {
+        Some(Closing::Taught) => "because it is stopping",
+        Some(Closing::Cut) => "because it is stopping, before it knew that the peer had all rows",
+        Some(Closing::Renewal) => "because a table is getting new numbers",
+        None => "",
     }
 }
 

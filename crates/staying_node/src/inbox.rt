@@ -4,11 +4,13 @@ ghost use Rattle.std.specs.Prelude.{◌≡◌, IfOk};
 ghost use Rattle.std.specs.Io.{ReadsAtMost};
 
 use crate::bell::Bell;
+use crate::clock::NodeClock;
 use std::alloc::Global;
-use std::io;
 use std::io::{ErrorKind, Read};
 use std::net::TcpStream;
 use std::sync::{Condvar, Mutex, Wait};
+use std::time::Clock;
+use std::{io, mem};
 
 /// The most bytes that an inbox holds. The thread that reads the connection waits until there is room.
 const MOST_BYTES: usize = 1 << 20;
@@ -24,6 +26,8 @@ struct Arrivals {
     taken: usize,
     /// The bytes that arrived since the connection began.
     total: u64,
+    /// The longest that the reading thread waited for bytes since this was last taken, in milliseconds.
+    longest_wait: u64,
     /// Whether the remote peer sends nothing more.
     over: bool,
     /// Whether a read of the connection failed.
@@ -50,6 +54,7 @@ impl Inbox {
                 bytes,
                 taken: 0,
                 total,
+                longest_wait: 0,
                 over: false,
                 failed: false,
                 code: None,
@@ -59,9 +64,10 @@ impl Inbox {
         }
     }
 
-    /// Adds bytes once there is room. Returns whether the reading goes on.
-    fn add<R: Wait>(&self, rt: &R, piece: &[u8]) -> bool {
+    /// Adds bytes that came after a wait of `waited` milliseconds, once there is room. Returns whether the reading goes on.
+    fn add<R: Wait>(&self, rt: &R, piece: &[u8], waited: u64) -> bool {
         let mut arrivals = self.arrivals.lock(rt);
+        arrivals.longest_wait = arrivals.longest_wait.max(waited);
         for _ in rt.forever() {
             if arrivals.closed {
                 return false;
@@ -113,6 +119,12 @@ impl Inbox {
         arrivals.total
     }
 
+    /// Takes the longest that the reading thread waited for bytes since this was last taken, in milliseconds.
+    pub(crate) fn take_longest_wait<R: Wait>(&self, rt: &R) -> u64 {
+        let mut arrivals = self.arrivals.lock(rt);
+        mem::replace(&mut arrivals.longest_wait, 0)
+    }
+
     /// Takes bytes that arrived, as a read does. `WouldBlock` if there are none yet.
     pub(crate) fn take<R: Wait>(&self, rt: &R, buffer: &mut [u8]) -> io::Result<usize>
         ensures { ReadsAtMost result buffer.new }
@@ -150,16 +162,25 @@ fn nothing(arrivals: &Arrivals) -> io::Result<usize>
 }
 
 /// Reads a connection into an inbox until it ends or nobody reads the inbox any more, and rings the bell at each arrival.
-pub(crate) fn receive<R: Wait>(rt: &R, stream: &TcpStream, inbox: &Inbox, bell: &Bell) {
+pub(crate) fn receive<R: Wait + Clock>(
+    rt: &R,
+    clock: NodeClock,
+    stream: &TcpStream,
+    inbox: &Inbox,
+    bell: &Bell,
+) {
     let mut piece = [0u8; PIECE];
     for _ in rt.forever() {
         let mut from = stream;
-        let goes_on = match from.read(&mut piece) {
+        let begun = clock.milliseconds(rt);
+        let read = from.read(&mut piece);
+        let waited = clock.milliseconds(rt).saturating_sub(begun);
+        let goes_on = match read {
             Ok(0) => {
                 inbox.end(rt);
                 false
             }
-            Ok(count) => inbox.add(rt, &piece[..count.min(PIECE)]),
+            Ok(count) => inbox.add(rt, &piece[..count.min(PIECE)], waited),
             Err(error) if error.kind() == ErrorKind::Interrupted => true,
             Err(error) => {
                 inbox.fail(rt, error.raw_os_error());

@@ -72,6 +72,11 @@ impl<'a, R: Wait> Intake<'a, R> {
         self.inbox.code(self.rt)
     }
 
+    /// Takes the longest that the reading thread waited for bytes since this was last taken, in milliseconds.
+    pub(crate) fn take_longest_wait(&self) -> u64 {
+        self.inbox.take_longest_wait(self.rt)
+    }
+
     /// Returns how many bytes arrived on the connection.
     pub(crate) fn arrived(&self) -> u64 {
         self.inbox.total(self.rt)

@@ -39,6 +39,8 @@ struct Flags {
     tracks: AtomicBool,
     /// Whether all sessions are to end, and none to begin, since a table gets new numbers.
     paused: AtomicBool,
+    /// Whether the node stops, and waits no longer for the sessions that stand.
+    cut: AtomicBool,
 }
 
 impl Flags {
@@ -49,6 +51,7 @@ impl Flags {
             stopped: AtomicBool::new(false),
             tracks: AtomicBool::new(false),
             paused: AtomicBool::new(false),
+            cut: AtomicBool::new(false),
         }
     }
 }
@@ -304,8 +307,14 @@ impl Node {
     pub(crate) fn end_sessions<R: Wait + Clock>(&self, rt: &R) -> u64 {
         self.wait_for_sessions(rt);
         let cut = self.peers_up(rt);
+        self.flags.cut.store(true, Ordering::SeqCst);
         self.shut_all(rt);
         cut
+    }
+
+    /// Returns whether the node stops, and waits no longer for the sessions that stand.
+    pub(crate) fn has_cut(&self) -> bool {
+        self.flags.cut.load(Ordering::SeqCst)
     }
 
     /// Returns whether no session may stand, since a table gets new numbers.

@@ -1,12 +1,12 @@
 //! A session with a peer, from its connection to its end.
 
-use crate::acknowledged::{are_acknowledged, are_last_acknowledged};
+use crate::acknowledged::{are_acknowledged, has_acknowledged_last};
 use crate::brought::brought_on;
 use crate::catching_up::Offer;
 use crate::clock::milliseconds;
 use crate::definitions::{Comparison, are_alike, first_passed_over};
 use crate::ends::{
-    FailureCodes, cause_of, cause_text, end_of_closed, end_of_error, has_done_all, own_cause,
+    FailureCodes, cause_of, cause_text, closing_cause, end_of_closed, end_of_error, has_done_all,
 };
 use crate::inbox::{Inbox, receive};
 use crate::intake::Intake;
@@ -21,8 +21,8 @@ use node_core::{
 };
 use node_log::pid_of;
 use node_rules::{
-    EndNews, EndedConnection, Ending, Learning, Outside, Resync, ResyncsHeard, Teaching, counts_as,
-    end_of_over, lacks_tables, resync_end,
+    Closing, EndNews, EndedConnection, Ending, Learning, Outside, Resync, ResyncsHeard, Teaching,
+    closing_of, counts_as, lacks_tables, missed_heartbeat, resync_end,
 };
 use peers_devices::Writes;
 use peers_engine::{AlwaysOpen, EngineError, Outcome, Worker};
@@ -155,8 +155,8 @@ struct Work<'a, N> {
     left: Vec<u64>,
     /// Whether the log says that a table was passed over.
     passes_over: bool,
-    /// Whether the node stops and the session ends because all was taught and acknowledged, but for tables that were left.
-    is_done: bool,
+    /// Why this node closes the session itself, if it does.
+    closing: Option<Closing>,
     /// The error that ended the session, if one did.
     error: Option<EngineError>,
     comparison: Comparison,
@@ -202,7 +202,7 @@ impl<'a, N: Wait + Clock> Work<'a, N> {
             tick_look: (0, 0),
             left: Vec::new(node.alloc),
             passes_over: false,
-            is_done: false,
+            closing: None,
             error: None,
             comparison: Comparison::new(),
         }
@@ -250,14 +250,16 @@ impl<'a, N: Wait + Clock> Work<'a, N> {
         let count = tables.len();
         let acknowledged = outside.stops && are_acknowledged(tables);
         let end = self.ending.look(now, outside, count, acknowledged);
-        self.is_done = outside.stops && !outside.paused && matches!(end, Some(SessionEnd::End));
-        end
+        self.closing = closing_of(end, outside.paused, self.node.has_cut());
+        match self.closing {
+            Some(_) => Some(SessionEnd::End),
+            None => end,
+        }
     }
 
-    /// Returns why a session that is over ended, given what a turn or a tick of it came to.
+    /// Returns why a session that is over ended, given what a turn or a tick of it came to: as that says, unless it was to end anyway.
     fn last_end(&mut self, end: SessionEnd) -> SessionEnd {
-        let interruption = self.interruption();
-        end_of_over(end, self.node.stops(), interruption)
+        self.interruption().unwrap_or(end)
     }
 
     /// Notes the error that ends the session, and returns why that is over.
@@ -355,7 +357,11 @@ impl<'a, N: Wait + Clock> Work<'a, N> {
     fn look(&mut self, now: Moment) -> Option<SessionEnd> {
         match self.worker.session.state() {
             State::New | State::Hello | State::Ended => return None,
-            State::Ready | State::Teaching => self.begin(),
+            State::Ready | State::Teaching => {
+                let had_begun = self.ending.has_begun();
+                self.begin();
+                self.look_at_heartbeats(had_begun);
+            }
         }
         self.look_at_teaching();
         self.look_at_rows();
@@ -442,8 +448,20 @@ impl<'a, N: Wait + Clock> Work<'a, N> {
         }
     }
 
-    /// Adds a line to the log for each table that the session has left. Those for which the log has no room come at a later tick.
+    /// Adds a line to the log if bytes came again after none had come for too long, of a session that had begun.
+    fn look_at_heartbeats(&self, begun: bool) {
+        let longest_wait = self.from.take_longest_wait();
+        if let Some(milliseconds) = missed_heartbeat(begun, longest_wait) {
+            self.log(PeerEvent::NoHeartbeat { milliseconds });
+        }
+    }
+
+    /// Adds a line to the log for each table that the session has left, unless the node stops. Those for which the log has no room come at a
+    /// later tick.
     fn look_at_left(&mut self) {
+        if self.node.stops() {
+            return;
+        }
         for index in 0..self.worker.session.progress().len() {
             let Some(progress) = self.worker.session.progress().get(index) else {
                 return;
@@ -556,7 +574,8 @@ impl<'a, N: Wait + Clock> Work<'a, N> {
             peer: self.peer,
         };
         if let Some(reader) = self.worker.session.reader() {
-            self.comparison.look(&place, reader);
+            let under_way = self.learning.is_under_way();
+            self.comparison.look(&place, reader, under_way);
             if self.offer == Offer::Waits {
                 self.is_alike = are_alike(self.node.roster.tables(), reader);
             }
@@ -693,6 +712,7 @@ impl<'a, N: Wait + Clock> Work<'a, N> {
     /// Notes what the turn in which the session ended came to: a hello of the peer that was over, and the end of the resync that the session
     /// was asked for, unless an error came before all was done.
     fn look_at_last_turn(&mut self) {
+        self.look_at_heartbeats(self.ending.has_begun());
         if self.role == PeerRole::Accept && self.worker.session.version().is_some() {
             self.begin();
         }
@@ -738,7 +758,7 @@ impl<'a, N: Wait + Clock> Work<'a, N> {
             return;
         }
         for progress in self.worker.session.progress() {
-            if are_last_acknowledged(progress) {
+            if has_acknowledged_last(progress) {
                 continue;
             }
             if let Some(table) = table_at(self.node.roster.tables(), progress.table) {
@@ -756,7 +776,7 @@ impl<'a, N: Wait + Clock> Work<'a, N> {
     /// Adds a line to the log about the end of the connection with this far end, whose session, if there was one, lasted for `lasted`
     /// milliseconds, unless it is news of nothing: an attempt failed as the one before, or was given up.
     fn log_end(&self, end: SessionEnd, lasted: u64, far: Option<SocketAddr>) {
-        let cause = self.cause(end);
+        let failure = self.failure(end);
         let connection = EndedConnection {
             begun: self.ending.has_begun(),
             connects: self.role == PeerRole::Connect,
@@ -764,6 +784,10 @@ impl<'a, N: Wait + Clock> Work<'a, N> {
             end,
             status: status_in(self.from.head()),
             given_up: self.is_given_up(),
+        };
+        let cause = match end {
+            SessionEnd::End => closing_cause(self.closing),
+            _ => failure.as_str(),
         };
         let cause = cause.as_bytes();
         match connection.news() {
@@ -779,14 +803,9 @@ impl<'a, N: Wait + Clock> Work<'a, N> {
         self.node.log_peer_event_at(self.rt, self.peer, far, event);
     }
 
-    /// Returns what is known of why the session ended as `end`, in words that stand behind "ended", or nothing if memory runs out. Of one that was
-    /// closed it is why this node closed it, and nothing if the peer did.
-    fn cause(&self, end: SessionEnd) -> String {
+    /// Returns what failed if the session ended as `end`, in words that stand behind "ended", or nothing if memory runs out.
+    fn failure(&self, end: SessionEnd) -> String {
         let alloc = self.node.alloc;
-        if end == SessionEnd::End {
-            let cause = own_cause(self.node.stops(), self.node.is_paused(), self.is_done);
-            return String::from_str(alloc, cause).unwrap_or(String::new(alloc));
-        }
         let codes = FailureCodes {
             read: self.from.code(),
             write: self.to.code,
@@ -950,7 +969,8 @@ fn work_in<'s, 'a, E: 's, N: Threads + Wait + Clock + Sync>(
     inbox: &'s Inbox,
     slot: &'s Slot,
 ) {
-    match scope.spawn(move || receive(rt, stream, inbox, &slot.bell)) {
+    let clock = work.node.clock;
+    match scope.spawn(move || receive(rt, clock, stream, inbox, &slot.bell)) {
         Ok(reader) => {
             let end = work.work();
             work.end(end);
