@@ -4,12 +4,15 @@
 //   build   rustc -O --edition 2021 table.rs
 //   run     ./table [OPS] [ROUNDS]          (default 1000000 3)
 //
-// Four tables with the same rules (docs/FORMATS.md, section 7):
+// Five tables with the same rules (docs/FORMATS.md, section 7):
 //   list   a Vec of rows in ascending order of key, everything else by search
 //   btree  BTreeMap by key, BTreeMap by number, BTreeSet by end, number, key
 //   hash   HashMap by key (std's hasher), the same two ordered indexes
 //   lazy   HashMap by key, VecDeque of numbers and a heap of ends from which
 //          what is out of date is dropped when it is met
+//   swept  rows in slots, in blocks; BTreeMap from key to slot, a log of
+//          numbers with their slots that is swept a little at each change,
+//          BTreeSet by end, number: the form of the crate table_stock
 // `history` adds one event and one reply per call to a Vec, as a cell keeps.
 // Every table is run against `list` on one mixed list of calls first.
 use std::cmp::Reverse;
@@ -145,6 +148,86 @@ impl<K: Key> Table<K> for Lazy<K> {
     fn len(&self) -> usize { self.rows.len() }
 }
 
+struct Swept<K> {
+    size: usize,
+    last: u32,
+    keys: BTreeMap<K, usize>,
+    slots: Vec<Vec<Option<(K, Row)>>>,
+    vacant: Vec<usize>,
+    settled: VecDeque<(u32, usize)>,
+    log: VecDeque<(u32, usize)>,
+    ends: BTreeSet<(u64, u32)>,
+}
+impl<K: Key> Swept<K> {
+    const BLOCK: usize = 1024;
+    fn slot(&mut self, at: usize) -> &mut Option<(K, Row)> { &mut self.slots[at / Self::BLOCK][at % Self::BLOCK] }
+    fn row(&self, entry: (u32, usize)) -> Option<&(K, Row)> {
+        self.slots[entry.1 / Self::BLOCK][entry.1 % Self::BLOCK].as_ref().filter(|x| x.1.number == entry.0)
+    }
+    fn above(&self, n: u32) -> impl Iterator<Item = &(K, Row)> {
+        let settled = self.settled.range(self.settled.partition_point(|x| x.0 <= n)..);
+        settled.chain(self.log.range(self.log.partition_point(|x| x.0 <= n)..)).filter_map(|x| self.row(*x))
+    }
+    fn vacate_first(&mut self) {
+        let (_, number) = self.ends.pop_first().unwrap();
+        let key = self.above(number - 1).next().unwrap().0.clone();
+        let at = self.keys.remove(&key).unwrap();
+        *self.slot(at) = None;
+        self.vacant.push(at);
+    }
+    fn new_slot(&mut self) -> usize {
+        if let Some(at) = self.vacant.pop() { return at; }
+        if self.slots.last().is_none_or(|b| b.len() == Self::BLOCK) { self.slots.push(Vec::with_capacity(Self::BLOCK)); }
+        let block = self.slots.len() - 1;
+        self.slots[block].push(None);
+        block * Self::BLOCK + self.slots[block].len() - 1
+    }
+    fn sweep(&mut self) {
+        if self.settled.is_empty() && self.log.len() < 2 * self.keys.len() + 64 { return; }
+        for _ in 0..4 {
+            match self.log.pop_front() {
+                Some(x) => if self.row(x).is_some() { self.settled.push_back(x); },
+                None => { std::mem::swap(&mut self.settled, &mut self.log); return; }
+            }
+        }
+    }
+}
+impl<K: Key> Table<K> for Swept<K> {
+    fn new(size: usize) -> Self {
+        let (settled, log) = (VecDeque::new(), VecDeque::new());
+        Swept { size, last: 0, keys: BTreeMap::new(), slots: Vec::new(), vacant: Vec::new(), settled, log, ends: BTreeSet::new() }
+    }
+    fn track(&mut self, key: &K, add: u32, moment: u64) -> Row {
+        self.last += 1;
+        let last = self.last;
+        let (at, row) = match self.keys.get(key) {
+            Some(&at) => {
+                let r = &mut self.slot(at).as_mut().unwrap().1;
+                let old = (r.ends, r.number);
+                *r = next_row(Some(r), last, add, moment);
+                let row = r.clone();
+                self.ends.remove(&old);
+                (at, row)
+            }
+            None => {
+                if self.keys.len() == self.size { self.vacate_first(); }
+                let (at, row) = (self.new_slot(), next_row(None, last, add, moment));
+                self.keys.insert(key.clone(), at);
+                *self.slot(at) = Some((key.clone(), row.clone()));
+                (at, row)
+            }
+        };
+        self.ends.insert((row.ends, row.number));
+        self.log.push_back((row.number, at));
+        self.sweep();
+        row
+    }
+    fn copy(&mut self, n: u32, limit: usize) -> Vec<(u32, K, Row)> {
+        self.above(n).take(limit).map(|(k, r)| (r.number, k.clone(), r.clone())).collect()
+    }
+    fn len(&self) -> usize { self.keys.len() }
+}
+
 struct Random(u64);
 impl Random { fn next(&mut self) -> u64 { self.0 ^= self.0 << 13; self.0 ^= self.0 >> 7; self.0 ^= self.0 << 17; self.0 } }
 
@@ -210,16 +293,19 @@ fn main() {
     let ops = words.next().unwrap_or(1_000_000);
     let rounds = words.next().unwrap_or(3);
     same::<u32, Btree<u32>>(); same::<u32, Hashed<u32>>(); same::<u32, Lazy<u32>>(); same::<Vec<u8>, Btree<Vec<u8>>>();
+    same::<u32, Swept<u32>>(); same::<Vec<u8>, Swept<Vec<u8>>>();
     println!("integer keys");
     run::<u32, List<u32>>("list", 1000, ops / 10, rounds);
     for size in [1_000, 100_000, 1_000_000] {
         run::<u32, Btree<u32>>("btree", size, ops, rounds);
         run::<u32, Hashed<u32>>("hash", size, ops, rounds);
         run::<u32, Lazy<u32>>("lazy", size, ops, rounds);
+        run::<u32, Swept<u32>>("swept", size, ops, rounds);
     }
     println!("string keys of 17 bytes");
     run::<Vec<u8>, Btree<Vec<u8>>>("btree", 100_000, ops, rounds);
     run::<Vec<u8>, Hashed<Vec<u8>>>("hash", 100_000, ops, rounds);
+    run::<Vec<u8>, Swept<Vec<u8>>>("swept", 100_000, ops, rounds);
     println!("threads, integer keys, tracks of held keys");
     for (tables, workers) in [(1, 1), (1, 2), (1, 4), (4, 4)] { threads(tables, workers, ops, rounds); }
 }

@@ -110,6 +110,27 @@ round_in_less_and_less() {
     fi
 }
 
+# least_kilobytes WORD..: prints the address space, in KB, in which the program can do what these words ask for, to 64 KB. With one arena, since
+# the C library reserves 64 MB of address space for each.
+least_kilobytes() {
+    local low=0 high=262144 middle
+    while [ $((high - low)) -gt 64 ]; do
+        middle=$(((low + high) / 2))
+        if MALLOC_ARENA_MAX=1 in_kilobytes "$middle" "$@" >"$scratch/output" 2>&1; then high=$middle; else low=$middle; fi
+    done
+    echo "$high"
+}
+
+# 8,000 changes of eight rows in each round, with which their events go: the rows keep their slots, and the log of their numbers is swept.
+# Unswept, it would take 3 MB more in the longer run.
+changes_in_the_same_memory() {
+    local few many
+    few=$(least_kilobytes round --threads 8 --tracks 1000 --rounds 4)
+    many=$(least_kilobytes round --threads 8 --tracks 1000 --rounds 54)
+    if [ $((many - few)) -le 1024 ]; then pass; else fail "432,000 changes of 8 rows take $many KB of address space, 32,000 take $few"; fi
+    echo "8 rows: 32,000 changes in $few KB, 432,000 in $many KB"
+}
+
 memory() {
     local subcommand
     repeat 100000000 '#' >"$scene"
@@ -126,6 +147,7 @@ memory() {
     ends 'learn of a short scene in 50 MB' 0 "$text" ''
     words_in_less_and_less
     subcommands_in_less_and_less
+    changes_in_the_same_memory
     counted bin/checks/nodes.py memory
 }
 

@@ -27,7 +27,7 @@ from harness.program import path_of_program  # noqa: E402
 from harness.trial import CHECKS, Late, Skipped, Trial, Wrong  # noqa: E402
 
 # The modules of bin/staying, each of which notes its checks.
-for module in ('balancers clocks definitions hostile lacking logs measures memory meshes ports renewals requests resyncs sessions '
+for module in ('balancers clocks dashboards definitions hostile lacking logs measures memory meshes ports renewals requests resyncs sessions '
                'starting').split():
     importlib.import_module('staying.' + module)
 
@@ -37,7 +37,7 @@ LIMIT = 600
 # So many checks may be tried a second time, on a host that was too slow for all of them at once.
 AGAIN = 3
 # Those that take longest, which begin first.
-LONGEST = """asks-again-after-a-minute clock-heartbeats clock-jumps clock-of-a-mute-peer three-faults idle-clients metrics-idle
+LONGEST = """asks-again-after-a-minute dashboard clock-heartbeats clock-jumps clock-of-a-mute-peer three-faults idle-clients metrics-idle
     million-changes each-allocation-of-a-session soak memory-of-many-clients stops-beside-scrapes clock-of-slow-clients clock-of-lags
     suspended drains-slowly clock-of-renewals sends-without-pause clock-of-an-endless-peer haproxy-starts-again haproxy-that-connects
     haproxy-that-is-connected-to haproxy-of-version-2-0 haproxy-that-differs haproxy-that-differs-otherwise lacking-tables

@@ -4,7 +4,8 @@ ghost use Rattle.std.specs.Prelude.{◌≡◌};
 ghost use Rattle.node_rules.specs.Heartbeats.{missed_heartbeat};
 
 /// The longest time in which the node may read nothing of a peer that is well, in milliseconds: the peer sends a heartbeat 3 s after its last
-/// byte, a HAProxy at times only once a timer of 5 s is over, and the log doesn't say that the node itself stood still for up to 2 s.
+/// byte, a HAProxy at times only once a timer of 5 s is over. It leaves 1 s for a node that stood still, of which the log says nothing up to
+/// 2 s: both at their longest are rare, and then the line says that bytes stayed away, as they did.
 const LONGEST: u64 = 6_000;
 
 /// Returns for how many milliseconds the node read nothing of a peer, not even a heartbeat, if that is news, given whether their session

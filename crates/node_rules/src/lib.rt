@@ -1,7 +1,7 @@
 //! What a node that stays decides of its sessions and connections, as values and machines without threads, sockets or a clock: when a
 //! session ends, and for what; what is known of a peer, of its resyncs and of its tables; which of its connections stands, and when the
-//! node connects to it; why a hello is refused; when the log says that a peer's heartbeat stayed away, or that it closes its sessions soon; and which client's connection goes for
-//! that of another one.
+//! node connects to it; why a hello is refused; when the log says that a peer's heartbeat stayed away, or that it closes its sessions soon;
+//! and which client's connection goes for that of another one.
 #![tactic(auto)]
 
 mod answers;

@@ -617,6 +617,8 @@ impl<'a, N: Wait + Clock> Work<'a, N> {
         let Some(end) = self.learning.end_of(heard) else {
             return;
         };
+        // the rows of a table that the peer has just come to define alike are among those of this resync
+        self.compare_definitions();
         let lacks = self.lacks_tables();
         let end = counts_as(end, lacks);
         self.end_learning(end);

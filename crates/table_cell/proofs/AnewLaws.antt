@@ -10,7 +10,7 @@ use Rattle.table_cell.specs.declared.events.CellReply.{CellReply}
 use Rattle.table_cell.specs.Machine.{TableState, Step, Replays, new_table}
 use Rattle.table_cell.specs.Histories.{CellState, IsSoundCell, begun_anew}
 use Rattle.table_cell.specs.Cells.{IsNewFrom}
-use Rattle.table_cell.proofs.RowsLaws.{some_none}
+use Rattle.table_stock.proofs.RowsLaws.{some_none}
 
 -- ---- a history that begins anew
 

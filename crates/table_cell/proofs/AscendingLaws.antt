@@ -16,7 +16,7 @@ use Rattle.table_cell.specs.Copying.{update_of}
 use Rattle.table_cell.specs.Machine.{TableState, acknowledged_by, bound_by, in_reach, is_unacked, progress_of, unacked, version_by}
 use Rattle.table_cell.specs.Soundness.{NumbersRise}
 use Rattle.table_cell.specs.Histories.{AreAscending}
-use Rattle.table_cell.proofs.RowsLaws.{rise_each, rise_filter}
+use Rattle.table_stock.proofs.RowsLaws.{rise_each, rise_filter}
 use Rattle.table_cell.proofs.ReachLaws.{reach_rise}
 
 all_above : (version : Version) (d : Definition) (now number next : ℕ) (es : List (Key × StoredRow)) → AllByRecursion (λ (e : Key × StoredRow). (number + 1 ≤ e.1.number) × (e.1.number < next)) es

@@ -18,7 +18,7 @@ use Rattle.table_types.specs.Rows.{smaller, later_by, life_within, end_of, cell_
 use Rattle.table_types.specs.Rotation.{rotated, turned}
 use Rattle.table_types.specs.Changes.{most, changed_count, raised, changed_rate, changed_cell, changed_cells, begun_cell, begun_cells, cell_types}
 use Rattle.table_cell.specs.Soundness.{CellFits, CellsFit, EndFits}
-use Rattle.table_cell.proofs.RowsLaws.{not_true}
+use Rattle.table_stock.proofs.RowsLaws.{not_true}
 
 pub cell_later : (latest now : ℕ) (shape : Shape) (c : Cell) → latest ≤ now → CellFits latest shape c → CellFits now shape c
 cell_later latest now shapes.Count (cells.Count n) later fits = fits

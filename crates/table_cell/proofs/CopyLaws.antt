@@ -11,7 +11,7 @@ use Rattle.table_cell.specs.declared.errors.CopyError.{CopyError}
 use Rattle.table_cell.specs.declared.errors.CopyError.TheVariants as uncopied
 use Rattle.table_cell.specs.declared.progress.Progress.{Progress}
 use Rattle.table_cell.specs.Machine.{TableState, acknowledged_by, bound_by, in_reach, is_unacked, copied, copy_refusal, is_out, last_number, progress_of, teaching, unacked, with_progress, version_by}
-use Rattle.table_cell.proofs.RowsLaws.{some_none}
+use Rattle.table_stock.proofs.RowsLaws.{some_none}
 
 with_same : (session : ℕ) (f g : Progress → Progress) (es : List (ℕ × Progress)) → ((p : Progress) → f p ≡ g p) → with_progress session f es ≡ with_progress session g es
 with_same session f g [] same = refl

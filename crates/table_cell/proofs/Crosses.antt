@@ -2,16 +2,16 @@
 use denote.Param.Send.{IsSend, IsSync, sendable}
 use Rattle.std.proofs.Crossing.{crosses}
 use Rattle.std.proofs.MapsCrossing.{crosses as maps}
-use Rattle.std.proofs.MapsCrossingOver.{crosses as sets}
 use Rattle.table_types.specs.contracts.batch.Batch as Batch
 use Rattle.table_cell.specs.contracts.events.CellEvent as CellEvent
 use Rattle.table_cell.specs.contracts.events.CellReply as CellReply
 use Rattle.table_cell.specs.contracts.table.Table as Table
 use Rattle.table_cell.specs.contracts.entry.Entry as Entry
 use Rattle.table_cell.specs.contracts.cell.TableCell as TableCell
+use Rattle.table_stock.proofs.Crosses.{stock_send}
 
 table_send : IsSend (Table.the_field).row
-table_send = search (sendable, crosses, maps, sets) depth 80 fits 20000
+table_send = search (stock_send, sendable, crosses) depth 80 fits 20000
 
 event_send : IsSend (CellEvent.the_field).row
 event_send = search (sendable, crosses) depth 80 fits 20000

@@ -19,7 +19,7 @@ use Rattle.table_cell.specs.Machine.{in_reach, is_copied, is_unacked, last_numbe
 use Rattle.table_cell.specs.Parts.{is_in_reach}
 use Rattle.table_cell.specs.Soundness.{KeysDiffer, NumbersRise}
 use Rattle.table_cell.specs.Handing.{Ascend, IsHanded, IsLastOfItsKey, IsNoOlder, numbers}
-use Rattle.table_cell.proofs.RowsLaws.{none_parts}
+use Rattle.table_stock.proofs.RowsLaws.{none_parts}
 use Rattle.table_cell.proofs.ReachLaws.{is_up_to}
 
 -- ---- elements

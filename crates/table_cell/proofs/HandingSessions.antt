@@ -19,7 +19,7 @@ use Rattle.table_cell.specs.Machine.{TableState, Step, acknowledging, last_numbe
 use Rattle.table_cell.specs.Histories.{CellState, Made, batch_in, batch_of, is_copy_of}
 use Rattle.table_cell.specs.Soundness.{IsBoundBelow, IsProgressBelow}
 use Rattle.table_cell.specs.Handing.{handed_after, handed_since, is_about, is_open_of, is_push_of, resyncs_after, resyncs_since, updates_in}
-use Rattle.table_cell.proofs.RowsLaws.{some_none}
+use Rattle.table_stock.proofs.RowsLaws.{some_none}
 
 -- ---- the progress of a session
 

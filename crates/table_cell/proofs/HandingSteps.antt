@@ -26,7 +26,7 @@ use Rattle.table_cell.specs.Histories.{CellState, IsSoundCell, Made, is_copy_of}
 use Rattle.table_cell.specs.Parts.{is_in_reach}
 use Rattle.table_cell.specs.Soundness.{AreTimely, IsSound}
 use Rattle.table_cell.specs.Handing.{Ascend, IsHanded, IsHandedOut, IsNoOlder, IsReached, KeepsUp, handed_after, handed_since, is_about, is_of_each_kind, is_open_of, numbers, resyncs_after, resyncs_since}
-use Rattle.table_cell.proofs.RowsLaws.{all_end, all_filter, all_so, rise_each, some_none}
+use Rattle.table_stock.proofs.RowsLaws.{all_end, all_filter, all_so, rise_each, some_none}
 use Rattle.table_cell.proofs.ReachLaws.{all_up_to, is_up_to, reach_rise}
 use Rattle.table_cell.proofs.StepLaws.{all_take, passes, step_sound}
 use Rattle.table_cell.proofs.HandingSessions.{below_next, handed_as_before, handed_copy, handed_open, is_resync, no_copy, no_open, own_end, own_with, own_without, resyncs_as_before, resyncs_copy, resyncs_open, same_progress, same_progress_of}

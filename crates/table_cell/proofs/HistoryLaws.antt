@@ -23,9 +23,9 @@ use Rattle.table_cell.specs.Machine.{TableState, Step, learn_refusal}
 use Rattle.table_cell.specs.Histories.{CellState, Learns, Made, batch_in, batch_of, event_in, events_of, held_batch, is_history_full, kept_batch, kept_events, latest_batch, or_former, room_of}
 use Rattle.table_cell.specs.Soundness.{IsTimely}
 use Rattle.table_cell.specs.Cells.{AreLatestCopies, IsCell, IsLatestCopy, OriginState, cell_of, latest_of}
-use Rattle.table_cell.proofs.BlockLaws.{get_after}
+use Rattle.table_stock.proofs.BlockLaws.{get_after}
 use Rattle.table_cell.proofs.RefusalLaws.{memory_is_no_learn_refusal}
-use Rattle.table_cell.proofs.RowsLaws.{some_none}
+use Rattle.table_stock.proofs.RowsLaws.{some_none}
 use Rattle.table_cell.proofs.RunLaws.{made_sound}
 
 -- ---- one more event

@@ -12,7 +12,7 @@ use Rattle.table_rows.specs.Rows.{IsFirstToEnd, goes_past, is_live}
 use Rattle.table_cell.specs.Machine.{TableState, Leaves, has_room, is_copied, is_unacked, without}
 use Rattle.table_cell.specs.Soundness.{NumbersRise}
 use Rattle.table_cell.specs.LearnedRuns.{IsLearnedRun, IsPassedWithin, is_passed}
-use Rattle.table_cell.proofs.RowsLaws.{all_end, all_filter, all_so, rise_bound, rise_each}
+use Rattle.table_stock.proofs.RowsLaws.{all_end, all_filter, all_so, rise_bound, rise_each}
 
 -- ---- how a push uses a run
 

@@ -1,13 +1,8 @@
-pub mod BlockLaws
 pub mod RowsLaws
 pub mod OneStep
 pub mod SessionLaws
 pub mod CellLaws
 pub mod StockLaws
-pub mod StockSteps
-pub mod EndLaws
-pub mod EndCounts
-pub mod IndexLaws
 pub mod StepLaws
 pub mod RefusalLaws
 pub mod UnackedLaws

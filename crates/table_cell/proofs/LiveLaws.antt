@@ -1,6 +1,6 @@
 -- If the first row to end is live, all rows are.
-use Rattle.std.proofs.Common.{◌≡◌, ℕ, ◌≤◌, Bool, true, false, ◌&&◌, List, [], ◌∷◌, Option, Some, None, refl, sym, ap, subst, ◌∙◌, arith, inl, inr, true≢false}
-use Rattle.std.specs.Prelude.{nat_lt}
+use Rattle.std.proofs.Common.{◌≡◌, ℕ, ◌≤◌, Bool, true, false, not, ◌&&◌, ◌||◌, List, [], ◌∷◌, length, Option, Some, None, refl, sym, ap, subst, ◌∙◌, arith, inl, inr, true≢false}
+use Rattle.std.specs.Prelude.{MatchBool, nat_lt}
 use Rattle.std.specs.List.{AllByRecursion, list_all}
 use Rattle.std.specs.Ordering.{is_eq, is_gt, nat_cmp, ordering_then}
 use Rattle.std.specs.Cmp.{nat_cmp_is}
@@ -11,7 +11,9 @@ use Rattle.table_types.specs.declared.key.Key.{Key}
 use Rattle.table_types.specs.Keys.{key_cmp}
 use Rattle.table_types.specs.Rows.{StoredRow}
 use Rattle.table_rows.specs.Rows.{IsFirstToEnd, end_cmp, ends_cmp, goes_past, is_live, row_at}
-use Rattle.table_cell.proofs.RowsLaws.{some_none}
+use Rattle.table_stock.specs.Stock.{LeftFor}
+use Rattle.table_stock.proofs.RowsLaws.{some_none}
+use Rattle.table_cell.specs.Machine.{Leaves, TableState, has_row, without}
 
 pub no_later : (a b : ℕ) (rest : Ordering) → is_gt (ordering_then (nat_cmp a b) rest) ≡ false → a ≤ b
 no_later a b rest order = elim (cases_Bool (nat_lt b a)) [
@@ -61,3 +63,8 @@ first_answers now key row rows (first, at, order) found = elim (cases_Bool (is_l
   where
     same_some : (p q : StoredRow) → ◌≡◌ {A = Option StoredRow} (Some p) (Some q) → p ≡ q
     same_some p q is = cc
+
+-- ---- room for one more row
+
+pub left_leaves : (s : TableState) (key : Key) (full : Bool) (rest : List (Key × StoredRow)) → not full ≡ nat_lt (length s.rows) s.size → LeftFor key full s.rows rest → Leaves s key rest
+left_leaves s key full rest room left = subst (λ (b : Bool). MatchBool (has_row key s || b) (rest ≡ s.rows) ((first : Key) × IsFirstToEnd s.rows first × (rest ≡ without first s.rows))) room left

@@ -10,7 +10,7 @@ use Rattle.table_types.specs.declared.copies.CopyKind.TheVariants as kinds
 use Rattle.table_cell.specs.Machine.{in_reach, is_unacked}
 use Rattle.table_cell.specs.Parts.{is_in_reach}
 use Rattle.table_cell.specs.Soundness.{NumbersRise}
-use Rattle.table_cell.proofs.RowsLaws.{all_filter, rise_filter}
+use Rattle.table_stock.proofs.RowsLaws.{all_filter, rise_filter}
 use Rattle.table_cell.proofs.UnackedLaws.{due_above, is_above, is_due}
 
 -- ---- one filter after another

@@ -13,7 +13,7 @@ use Rattle.table_cell.specs.declared.errors.LearnError.{LearnError}
 use Rattle.table_cell.specs.declared.errors.LearnError.TheVariants as unlearned
 use Rattle.table_cell.specs.declared.progress.Progress.{Progress}
 use Rattle.table_cell.specs.Machine.{TableState, is_of_table, track_refusal, learn_refusal, ack_refusal, open_refusal, close_refusal, purge_refusal, progress_of}
-use Rattle.table_cell.proofs.RowsLaws.{some_none}
+use Rattle.table_stock.proofs.RowsLaws.{some_none}
 use Rattle.table_cell.proofs.StepLaws.{passes}
 
 pub close_granted : (full : Bool) (s : TableState) (session : ℕ) → close_refusal full s session ≡ None → (full ≡ false) × (close_refusal false s session ≡ None)

@@ -15,7 +15,7 @@ use Rattle.table_cell.specs.Machine.{TableState, Step, Replays, unacked}
 use Rattle.table_cell.specs.Histories.{AreAscending, CellState, IsHeld, IsSoundCell, IsReplayed, Kept, Made, events_of, is_history_full, latest_batch, new_cell, room_of}
 use Rattle.table_cell.specs.Soundness.{AreTimely, IsSound, IsTimely}
 use Rattle.table_cell.proofs.AscendingLaws.{unacked_ascend}
-use Rattle.table_cell.proofs.RowsLaws.{all_end, some_none}
+use Rattle.table_stock.proofs.RowsLaws.{all_end, some_none}
 use Rattle.table_cell.proofs.StepLaws.{all_take, run_longer, run_sound, step_sound, new_sound}
 
 pub made_longer : (c e : CellState) (event : CellEvent) (reply : CellReply) → IsReplayed c → Made c event reply e → IsReplayed e

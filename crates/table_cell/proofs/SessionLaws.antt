@@ -9,7 +9,7 @@ use Rattle.table_cell.specs.declared.progress.Progress.{Progress}
 use Rattle.table_cell.specs.Parts.{index_of}
 use Rattle.table_cell.specs.Machine.{acknowledging, with_progress}
 use Rattle.table_cell.specs.Soundness.{SessionsDiffer}
-use Rattle.table_cell.proofs.RowsLaws.{some_none}
+use Rattle.table_stock.proofs.RowsLaws.{some_none}
 
 absent_parts : (session : ℕ) (e : ℕ × Progress) (es : List (ℕ × Progress)) → lookup (λ id. id == session) (e ∷ es) ≡ None → (nat_eq e.0 session ≡ false) × (lookup (λ id. id == session) es ≡ None)
 absent_parts session e es none = elim (cases_Bool (nat_eq e.0 session)) [

@@ -19,7 +19,7 @@ use Rattle.table_cell.specs.Soundness.{AreTimely}
 use Rattle.table_cell.specs.Histories.{CellState, IsReplayed, IsSoundCell, Kept, Slides, batch_in, batch_of, held_batch, kept_batch, kept_events, latest_batch, or_former}
 use Rattle.table_cell.specs.Cells.{AreLatestCopies, IsCell, IsLatestCopy, OriginState, cell_of, latest_of}
 use Rattle.table_cell.proofs.HistoryLaws.{batch_is, copied_is, former_twice, is_same, kept_is, none_former, then_some}
-use Rattle.table_cell.proofs.RowsLaws.{some_none}
+use Rattle.table_stock.proofs.RowsLaws.{some_none}
 use Rattle.table_cell.proofs.RunLaws.{runs_keep}
 
 abbrev pub Entries : Type 0

@@ -17,7 +17,7 @@ use Rattle.table_cell.specs.declared.events.CellEvent.TheVariants as events
 use Rattle.table_cell.specs.declared.events.CellReply.{CellReply}
 use Rattle.table_cell.specs.Machine.{IsGranted, Leaves, Step, TableState, has_room, has_row, without}
 use Rattle.table_cell.specs.Soundness.{IsSound, KeysDiffer, NumbersRise}
-use Rattle.table_cell.proofs.RowsLaws.{rise_each, some_none}
+use Rattle.table_stock.proofs.RowsLaws.{rise_each, some_none}
 use Rattle.table_cell.proofs.OneStep.{ends_flip}
 use Rattle.table_cell.proofs.LiveLaws.{no_later}
 

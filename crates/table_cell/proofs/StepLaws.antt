@@ -30,7 +30,7 @@ use Rattle.table_types.specs.Keys.{key_cmp}
 use Rattle.table_cell.specs.Copying.{update_of}
 use Rattle.table_cell.specs.Machine.{TableState, Step, without, has_row, has_room, Leaves, stored, tracked, learned, if_live, live_row, progress_of, with_progress, no_progress, bound_by, in_reach, is_unacked, is_copied, acknowledged_by, unacked, last_number, copied, acknowledging, is_of_table, copy_refusal, ack_refusal, is_out, Replays, new_table, version_by}
 use Rattle.table_cell.specs.Soundness.{CellsFit, EntryFits, NumbersRise, KeysDiffer, IsBoundBelow, IsProgressBelow, IsTimely, AreTimely, IsSound}
-use Rattle.table_cell.proofs.RowsLaws.{some_none, not_false, all_filter, all_end, all_so, filter_shorter, rise_filter, rise_end, rise_bound, without_none, differ_filter, differ_end, without_shorter}
+use Rattle.table_stock.proofs.RowsLaws.{some_none, not_false, all_filter, all_end, all_so, filter_shorter, rise_filter, rise_end, rise_bound, without_none, differ_filter, differ_end, without_shorter}
 use Rattle.table_cell.proofs.ReachLaws.{reach_rise}
 use Rattle.table_cell.proofs.SessionLaws.{sessions_differ_with, sessions_differ_filter, sessions_differ_end}
 use Rattle.table_cell.proofs.CellLaws.{cells_later, end_later, changed_cells_fit, begun_cells_fit, learned_cells_fit, end_of_fits}

@@ -1,4 +1,3 @@
-pub mod Blocks
 pub mod Copying
 pub mod Machine
 pub mod Soundness

@@ -3,17 +3,17 @@
 -- the order of refusals, and that each change takes the next number, are the profile's choices).
 use Rattle.std.specs.Prelude.{◌≡◌, ℕ, ◌+◌, ◌-◌, ◌^◌, Bool, true, false, not, ◌&&◌, ◌||◌, ◌==◌, nat_lt, nat_le, MatchBool, is_some, is_none, List, [], ◌∷◌, ◌++◌, length, map, filter, take, fold, Option, Some, None, option_and_then, if◌then◌else◌}
 use Rattle.std.specs.List.{list_all, list_any}
-use Rattle.std.specs.Ordering.{is_eq}
 use Rattle.std.specs.Map.{lookup}
 use Rattle.table_types.specs.declared.key.Key.{Key}
 use Rattle.table_types.specs.declared.update.Update.{Update}
 use Rattle.table_types.specs.declared.version.Version.{Version}
 use Rattle.table_types.specs.declared.version.Version.TheVariants as versions
-use Rattle.table_types.specs.Keys.{key_cmp, key_fits}
+use Rattle.table_types.specs.Keys.{key_fits}
 use Rattle.table_types.specs.Tables.{Definition}
 use Rattle.table_types.specs.Updates.{row_fits, may_be_named}
 use Rattle.table_types.specs.Rows.{StoredRow, row_of}
 use Rattle.table_rows.specs.Rows.{row_at, is_live, IsFirstToEnd}
+pub use Rattle.table_stock.specs.NumberedRows.{without}
 use Rattle.table_types.specs.declared.change.Change.{Change}
 use Rattle.table_types.specs.Changes.{change_fits, tracked as tracked_row}
 use Rattle.table_cell.specs.Copying.{update_of}
@@ -54,10 +54,6 @@ pub record TableState : Type 0 where
   pub sessions : List (ℕ × Progress)
 
 -- ---- rows
-
--- the rows without the row of a key
-abbrev pub without : Key → List (Key × StoredRow) → List (Key × StoredRow)
-without key rows = filter (λ e. not (is_eq (key_cmp key e.0))) rows
 
 abbrev pub has_row : Key → TableState → Bool
 has_row key s = is_some (row_at key s.rows)

@@ -4,13 +4,9 @@ use Rattle.table_types.specs.declared.key.Key.{Key}
 use Rattle.table_types.specs.Rows.{StoredRow}
 use Rattle.table_cell.specs.declared.errors.RenumberError.{RenumberError}
 use Rattle.table_cell.specs.declared.errors.RenumberError.TheVariants as unrenumbered
+pub use Rattle.table_stock.specs.NumberedRows.{numbered_from}
 use Rattle.table_cell.specs.Machine.{TableState}
 use Rattle.table_cell.specs.Histories.{CellState, begun_anew}
-
--- the rows in their order, with the numbers from `first` on
-abbrev pub numbered_from : ℕ → List (Key × StoredRow) → List (Key × StoredRow)
-numbered_from first [] = []
-numbered_from first (e ∷ es) = (e.0, record e.1 { number = first }) ∷ numbered_from (first + 1) es
 
 -- the table whose rows have the numbers from 1 on, and everything else as before
 abbrev pub renumbered : TableState → TableState

@@ -14,7 +14,7 @@ use Rattle.table_types.specs.Tables.{Definition, is_definition}
 use Rattle.table_types.specs.Updates.{may_be_named}
 use Rattle.table_types.specs.Rows.{StoredRow}
 use Rattle.table_types.specs.Changes.{cell_types}
-use Rattle.table_rows.specs.Rows.{row_at}
+pub use Rattle.table_stock.specs.NumberedRows.{NumbersRise, KeysDiffer}
 use Rattle.table_cell.specs.declared.progress.Progress.{Progress}
 use Rattle.table_cell.specs.declared.events.CellEvent.{CellEvent}
 use Rattle.table_cell.specs.declared.events.CellEvent.TheVariants as events
@@ -46,16 +46,6 @@ EntryFits d latest e =
     × CellsFit latest (cell_types d.types) e.1.cells
     × (may_be_named d e.1.name ≡ true)
     × EndFits latest d.expire e.1.ends
-
--- the numbers ascend from `least`, below `next`
-abbrev pub NumbersRise : ℕ → ℕ → List (Key × StoredRow) → Type 0
-NumbersRise least next [] = least ≤ next
-NumbersRise least next (e ∷ es) = (least ≤ e.1.number) × NumbersRise (e.1.number + 1) next es
-
--- no two rows have the same key
-abbrev pub KeysDiffer : List (Key × StoredRow) → Type 0
-KeysDiffer [] = Unit {0}
-KeysDiffer (e ∷ es) = (row_at e.0 es ≡ None) × KeysDiffer es
 
 -- no session occurs twice
 abbrev pub SessionsDiffer : List (ℕ × Progress) → Type 0

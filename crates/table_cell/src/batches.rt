@@ -12,7 +12,6 @@ ghost use Rattle.table_cell.specs.Parts.{IsCopy};
 ghost use Rattle.table_types.specs.Batches.{IsBatchFor};
 ghost use Rattle.table_types.specs.declared.copies.CopyKind.{CopyKind};
 
-use crate::blocks::Blocks;
 use crate::cell::TableCell;
 use crate::copying::last_number;
 use crate::entry::{Entry, prepare};
@@ -20,6 +19,7 @@ use crate::errors::{CopyError, StrangeBatch};
 use crate::events::{CellEvent, CellReply};
 use crate::table::Table;
 use std::collections::BTreeMap;
+use table_stock::Blocks;
 use table_types::{Batch, CopyKind, Memory, Moment};
 
 /// Records that the session is taught the batch of a copy, which is `event`, and adds the event to the history. Returns the

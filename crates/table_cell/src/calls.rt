@@ -8,12 +8,12 @@ ghost use Rattle.table_cell.specs.declared.events.CellReply.TheVariants as repli
 ghost use Rattle.table_cell.specs.Histories.{Acknowledges, Closes, Opens, Purges, Shares, SharesWith};
 ghost use Rattle.table_cell.specs.Machine.{Step, ack_refusal, close_refusal, open_refusal, purge_refusal};
 
-use crate::blocks::Blocks;
 use crate::cell::TableCell;
 use crate::entry::{Entry, prepare};
 use crate::errors::{AckError, CloseError, OpenError, PurgeError};
 use crate::events::{CellEvent, CellReply};
 use crate::table::Table;
+use table_stock::Blocks;
 use table_types::{Memory, Moment, Settled, Version};
 
 /// Acknowledges `number`, and adds the event to the history. Returns what this settled, and the event's entry. If memory

@@ -4,10 +4,9 @@ ghost use Rattle.std.specs.Prelude.{◌≡◌, ◌+◌, ◌≤◌, ◌↔◌, �
 ghost use Rattle.std.specs.List.{list_all};
 ghost use Rattle.table_rows.specs.Rows.{goes_past, is_live, row_at};
 ghost use Rattle.table_cell.specs.Machine.{ack_refusal, has_out, new_table, progress_of};
-ghost use Rattle.table_cell.specs.Stock.{AreInRisingKey, AreNextInRisingKey};
+ghost use Rattle.table_stock.specs.Stock.{AreInRisingKey, AreNextInRisingKey};
 ghost use Rattle.table_cell.specs.Histories.{IsSoundCell, Kept, events_of, event_in, is_history_full, new_cell, room_of};
 
-use crate::blocks::Blocks;
 use crate::entry::Entry;
 use crate::events::{CellEvent, CellReply};
 use crate::origin::Origin;
@@ -15,6 +14,7 @@ use crate::table::Table;
 use std::alloc::Global;
 use std::collections::BTreeMap;
 use std::marker::Model;
+use table_stock::Blocks;
 use table_types::{Key, Memory, Moment, Row, TableDef};
 
 /// A stick table that keeps its history: each event with its reply, including the batches that were copied.

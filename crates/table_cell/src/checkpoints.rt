@@ -5,7 +5,6 @@ ghost use Rattle.std.specs.List.{filter};
 ghost use Rattle.table_cell.specs.Histories.{BeginsAnew, Checkpoints, IsReplayed, Kept, Slides};
 ghost use Rattle.table_cell.specs.Machine.{is_any_out, is_open};
 
-use crate::blocks::Blocks;
 use crate::cell::TableCell;
 use crate::entry::Entry;
 use crate::errors::CheckpointError;
@@ -14,6 +13,7 @@ use crate::table::Table;
 use std::collections::BTreeMap;
 use std::marker::Model;
 use std::mem;
+use table_stock::Blocks;
 
 /// The events that a table has dropped. Dropping it frees those that no receipt shares, for which no lock on the table is
 /// needed.

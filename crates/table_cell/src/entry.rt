@@ -3,11 +3,11 @@
 ghost use Rattle.std.specs.Prelude.{◌≡◌, ◌++◌, ◌∷◌, [], IfOk, OnOk, option_copied, true};
 ghost use Rattle.table_cell.specs.Histories.{batch_in};
 
-use crate::blocks::Blocks;
 use crate::events::{CellEvent, CellReply};
 use std::alloc::Global;
 use std::marker::Model;
 use std::sync::Arc;
+use table_stock::Blocks;
 use table_types::{Batch, Memory};
 
 /// An event of a table with the table's reply. Copies of an entry share both.

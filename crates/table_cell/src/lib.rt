@@ -2,10 +2,8 @@
 //! events, including each batch that was copied.
 #![tactic(auto)]
 
-mod above;
 mod batch;
 mod batches;
-mod blocks;
 mod calls;
 mod cell;
 mod checkpoints;
@@ -24,11 +22,9 @@ mod refusals;
 mod renumbering;
 mod sessions;
 mod standing;
-mod stock;
 mod table;
 mod tracking;
 
-pub use blocks::Blocks;
 pub use cell::TableCell;
 pub use checkpoints::Dropped;
 pub use entry::Entry;
@@ -46,4 +42,5 @@ pub use laws::{
 pub use pending::Pending;
 pub use progress::Progress;
 pub use standing::{standing_resyncs_end, what_is_left_shrinks};
+pub use table_stock::Blocks;
 pub use table_types::{CopyKind, Settled};

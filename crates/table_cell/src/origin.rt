@@ -3,7 +3,6 @@
 ghost use Rattle.std.specs.Prelude.{◌≡◌, ◌+◌, ◌++◌, ◌≤◌, ◌^◌, [], length};
 ghost use Rattle.table_cell.specs.Cells.{IsNewFrom};
 
-use crate::blocks::Blocks;
 use crate::entry::Entry;
 use crate::past::{Past, no_past, with_events};
 use crate::table::Table;
@@ -11,6 +10,7 @@ use std::collections::BTreeMap;
 use std::marker::Model;
 use std::mem;
 use std::snapshot::Snapshot;
+use table_stock::Blocks;
 
 /// What stands before the events that a table has: the table with which its history begins, and the events of the history
 /// that slides dropped.

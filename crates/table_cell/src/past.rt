@@ -3,9 +3,9 @@
 ghost use Rattle.std.specs.Prelude.{◌≡◌, ◌++◌, []};
 ghost use Rattle.table_cell.specs.Pasts.{all_of};
 
-use crate::blocks::Blocks;
 use crate::entry::Entry;
 use std::snapshot::Snapshot;
+use table_stock::Blocks;
 
 /// The events that a table has dropped, in the order in which they were made. Only snapshots of it are kept, which have no
 /// bytes.

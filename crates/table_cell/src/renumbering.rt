@@ -3,14 +3,13 @@
 ghost use Rattle.std.specs.Prelude.{◌≡◌, OnErr, OnOk};
 ghost use Rattle.table_cell.specs.Renumbering.{Renumbers, renumbered};
 
-use crate::blocks::Blocks;
 use crate::cell::TableCell;
 use crate::errors::RenumberError;
 use crate::learned_run::LearnedRun;
 use crate::origin::Origin;
 use crate::table::Table;
 use std::collections::BTreeMap;
-use table_rows::MapRows;
+use table_stock::Blocks;
 use table_types::Memory;
 
 impl Table {
@@ -19,7 +18,7 @@ impl Table {
         ensures renumbered { OnOk result (self.new ≡ renumbered self.old) }
         ensures stays { OnErr result (self.new ≡ self.old) }
     {
-        self.stock = self.stock.renumbered(MapRows::new(self.alloc))?;
+        self.stock = self.stock.renumbered()?;
         self.learned_run = LearnedRun {
             after: 0,
             last: 0,

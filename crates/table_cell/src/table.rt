@@ -7,14 +7,14 @@ ghost use Rattle.table_types.specs.Rows.{StoredRow};
 ghost use Rattle.table_rows.specs.Rows.{IsFirstToEnd, goes_past, is_live, row_at};
 ghost use Rattle.table_cell.specs.Cells.{IsNewFrom};
 ghost use Rattle.table_cell.specs.Machine.{Leaves, is_full, learned, new_table, stored, tracked};
-ghost use Rattle.table_cell.specs.Stock.{AreInRisingKey, AreNextInRisingKey, left_for};
+ghost use Rattle.table_stock.specs.Stock.{AreInRisingKey, AreNextInRisingKey};
 
 use crate::learned_run::LearnedRun;
 use crate::progress::Progress;
-use crate::stock::Stock;
 use std::alloc::Global;
 use std::marker::Model;
-use table_rows::{MapRows, is_live};
+use table_rows::is_live;
+use table_stock::Stock;
 use table_types::{Change, Key, Memory, Moment, Row, TableDef, Update};
 
 /// A stick table: its parameters, its rows, the latest moment, and its open sessions.
@@ -24,7 +24,7 @@ pub(crate) struct Table {
     pub(crate) definition: TableDef,
     pub(crate) size: usize,
     pub(crate) nopurge: bool,
-    pub(crate) stock: Stock<MapRows>,
+    pub(crate) stock: Stock,
     pub(crate) latest: Moment,
     pub(crate) sessions: Vec<(u32, Progress)>,
     pub(crate) learned_run: LearnedRun,
@@ -60,7 +60,7 @@ impl Table {
             definition,
             size,
             nopurge,
-            stock: Stock::new(alloc, MapRows::new(alloc), first),
+            stock: Stock::new(alloc, first),
             latest: Moment::least(),
             sessions: Vec::new(alloc),
             learned_run: LearnedRun {
@@ -244,21 +244,6 @@ impl Table {
         )
     }
 
-    /// Returns the key of the row that has to be removed to store a row of a new key, or `None` if there is room.
-    fn leaving(&self) -> Result<Option<Key>, Memory>
-        requires { 1 ≤ self.now.size }
-        ensures leaves { IfOk result (λ leaving. (key : Key) → Leaves self.now key (left_for key leaving self.now.rows)) }
-        ensures first { IfOk result (λ leaving. IfSome leaving (IsFirstToEnd self.now.rows)) }
-    {
-        if self.stock.len() < self.size {
-            return Ok(None);
-        }
-        match self.stock.first_to_end() {
-            Some(first) => Ok(Some(first.copy(self.alloc)?)),
-            None => Ok(None),
-        }
-    }
-
     /// Stores `row`, which has the next number, in place of the key's, and removes the first row to end if there is no
     /// room for it. `now` becomes the latest moment. If memory runs out, nothing has changed.
     pub(crate) fn store(&mut self, key: Key, row: Row, now: Moment) -> Result<(), Memory>
@@ -268,10 +253,10 @@ impl Table {
         ensures stored { OnOk result ((rest : List (Key × StoredRow)) × Leaves self.old key rest × (self.new ≡ stored self.old key row now rest)) }
         ensures stays { OnErr result (self.new ≡ self.old) }
     {
-        let leaving = self.leaving()?;
+        let full = self.stock.len() >= self.size;
         let displaces = self.displaces(&key);
         let learned_run = self.run_with(&row);
-        self.stock.put(key, row, leaving)?;
+        self.stock.put(key, row, full)?;
         self.displaced = self.displaced.saturating_add(u64::from(displaces));
         self.learned_run = learned_run;
         self.latest = now;

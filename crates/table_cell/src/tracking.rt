@@ -11,12 +11,12 @@ ghost use Rattle.table_cell.specs.Histories.{Learns, Shares, SharesWith, Tracks,
 ghost use Rattle.table_cell.specs.Machine.{Leaves, Step, learn_refusal, learned, stored, track_refusal, tracked};
 ghost use Rattle.table_cell.specs.Parts.{reply_of};
 
-use crate::blocks::Blocks;
 use crate::cell::TableCell;
 use crate::entry::{Entry, prepare};
 use crate::errors::{LearnError, TrackError};
 use crate::events::{CellEvent, CellReply, Reply};
 use crate::table::Table;
+use table_stock::Blocks;
 use table_types::{Change, Key, Memory, Moment, Row, Update};
 
 /// Stores `row` under the next number in place of the key's, and adds `event` with `reply` to the history. Returns the

@@ -6,7 +6,7 @@ use table_rows::{ListRows, MapRows, Rows};
 use table_types::{Key, Memory, Row};
 
 /// The most rows that are held.
-const MOST_ROWS: usize = 20;
+pub(crate) const MOST_ROWS: usize = 20;
 
 /// A call.
 #[derive(Clone, Copy)]
@@ -38,7 +38,7 @@ struct Reply {
 }
 
 /// Takes out the row that ends first unless there is room for a row of `key`. Returns it with its key.
-fn make_room<R: Rows>(
+pub(crate) fn make_room<R: Rows>(
     rows: &mut R,
     alloc: Global,
     key: &Key,
@@ -90,7 +90,7 @@ fn are_same_replies(one: &Reply, other: &Reply) -> bool {
     are_same && are_same_removed(&one.removed, &other.removed)
 }
 
-fn are_same_rows(one: &[(Key, Row)], other: &[(Key, Row)]) -> bool {
+pub(crate) fn are_same_rows(one: &[(Key, Row)], other: &[(Key, Row)]) -> bool {
     if one.len() != other.len() {
         return false;
     }

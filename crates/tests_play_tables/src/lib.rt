@@ -15,6 +15,7 @@ pub mod next_rounds;
 pub mod numbers;
 mod round;
 mod seats;
+pub mod stocks;
 pub mod swaps;
 mod tracks;
 mod two_seats;

@@ -6,7 +6,7 @@ use Rattle.table_types.specs.Rows.{StoredRow}
 use Rattle.table_cell.specs.Copying.{update_of}
 use Rattle.table_cell.specs.Machine.{TableState, in_reach, is_unacked}
 use Rattle.table_cell.specs.Soundness.{EntryFits}
-use Rattle.table_cell.proofs.RowsLaws.{all_filter}
+use Rattle.table_stock.proofs.RowsLaws.{all_filter}
 use Rattle.table_cell.proofs.StepLaws.{later_sound}
 use Rattle.table_cell.proofs.UnackedLaws.{is_above, next_chosen, none_done, one_done}
 use Rattle.table_cell.proofs.ReachLaws.{chosen_above, is_chosen, reach_same}

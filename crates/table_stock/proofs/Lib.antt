@@ -1,0 +1,13 @@
+pub mod BlockLaws
+pub mod RowsLaws
+pub mod LogLaws
+pub mod SlotLaws
+pub mod StockLaws
+pub mod StockSteps
+pub mod EndLaws
+pub mod EndCounts
+pub mod ShelfLaws
+pub mod CallLaws
+pub mod ListLaws
+pub mod NumberedLaws
+pub mod Crosses
